@@ -1,0 +1,4 @@
+pub mod Evenness
+pub mod Minterms
+pub mod RowNumbers
+pub mod Words
