@@ -1,0 +1,5 @@
+pub mod Lists
+pub mod Fronts
+pub mod Stretches
+pub mod Texts
+pub mod Lawful

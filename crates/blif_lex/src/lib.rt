@@ -1,0 +1,15 @@
+//! The words of a BLIF text: its logical lines, each with the number of its first physical line.
+//! A text is gone over once, from line to line; words are slices of it.
+//! What a line means is left to the readers.
+#![tactic(auto)]
+
+mod bytes;
+mod cuts;
+pub mod fault;
+pub mod lines;
+mod rules;
+#[cfg(test)]
+mod tests;
+
+pub use fault::{LexFault, LexKind};
+pub use lines::Lines;

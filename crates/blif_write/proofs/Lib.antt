@@ -1,0 +1,12 @@
+pub mod Blocks
+pub mod ByKind
+pub mod Faults
+pub mod Lexing
+pub mod Once
+pub mod Lists
+pub mod Order
+pub mod Reading
+pub mod Recovered
+pub mod Spelled
+pub mod Statements
+pub mod Steps

@@ -1,0 +1,13 @@
+pub mod KindLemmas
+pub mod LayoutLemmas
+pub mod ListLemmas
+pub mod DescentLemmas
+pub mod DescentEnds
+pub mod SourceLemmas
+pub mod DistinctLemmas
+pub mod PeriodLemmas
+pub mod RangeLemmas
+pub mod SoundLemmas
+pub mod Traces
+pub mod Sameness
+pub mod OneSource

@@ -1,0 +1,1 @@
+-- All gates are fresh, and nothing is ranked or listed.

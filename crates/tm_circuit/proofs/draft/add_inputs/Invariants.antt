@@ -1,0 +1,8 @@
+-- what was added so far, after what was there
+use Rattle.std.proofs.Common.{◌≡◌, ◌++◌, map}
+use Rattle.tm_circuit.specs.Plain.{drive_of, input}
+use Rattle.tm_circuit.proofs.draft.add_inputs.Given as goal
+
+abbrev pub invariant-loop-name : goal.invariant-loop-name
+invariant-loop-name l =
+    (l.names.items ≡ l.initial.names.items ++ l.yielded) × (map drive_of l.drivers.items ≡ map drive_of l.initial.drivers.items ++ map (λ _. input) l.yielded)

@@ -1,0 +1,11 @@
+pub mod Plain
+pub mod Chain
+pub mod Source
+pub mod Follow
+pub mod Sound
+pub mod Build
+pub mod Inside
+pub mod Draft
+pub mod Descent
+pub mod Trace
+pub mod Same

@@ -1,0 +1,13 @@
+pub mod ListLemmas
+pub mod PlaceLemmas
+pub mod Menger
+pub mod KeyLemmas
+pub mod SearchLemmas
+pub mod Finite
+pub mod FlowLemmas
+pub mod UndoLemmas
+pub mod Augment
+pub mod WalkLemmas
+pub mod Cover
+pub mod FirstLemmas
+pub mod Final

@@ -1,0 +1,6 @@
+use Rattle.tm_flow.proofs.SearchLemmas.{IsReading}
+use Rattle.tm_flow.proofs.search.meet_reads.Given as goal
+
+abbrev pub invariant-loop-index : goal.invariant-loop-index
+invariant-loop-index g l =
+    IsReading (g.N.LazyNet.shape l.net) l.node l.at l.fn.search.met.entries l.fn.search.pending.items l.search.met.entries l.search.pending.items l.index

@@ -1,0 +1,6 @@
+pub mod Sorting
+pub mod Values
+pub mod Growing
+pub mod Widths
+pub mod Soundness
+pub mod Alikeness

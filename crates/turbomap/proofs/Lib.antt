@@ -1,0 +1,5 @@
+mod Held
+mod Names
+mod Runs
+mod Statuses
+mod Widest

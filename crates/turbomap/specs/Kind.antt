@@ -1,0 +1,36 @@
+-- The names of the kinds of faults, as lines say them.
+use Rattle.std.specs.Prelude.{ℕ, List, codes}
+use Rattle.blif_read.specs.declared.fault.BlifKind.{BlifKind}
+use Rattle.blif_read.specs.declared.fault.BlifKind.TheVariants.{BadByte, LongName, UnknownWord, LeftOut, Misplaced, BadCount, TooManyPins, RepeatedDriver, RepeatedOutput, BadRow, MixedRows, BadType, BadInit, UnknownInit, ManyClocks, Undriven, GatedClock, ClockAsData, TooManySignals, Loop, BadBinding, RepeatedModel, NoModel, UnknownFormal, RepeatedFormal, Unbound, Recursion, TooDeep, TooLarge}
+
+-- a kind is said by the name of its variant
+abbrev pub kind_name : BlifKind → List ℕ
+kind_name BadByte = codes "BadByte"
+kind_name LongName = codes "LongName"
+kind_name UnknownWord = codes "UnknownWord"
+kind_name LeftOut = codes "LeftOut"
+kind_name Misplaced = codes "Misplaced"
+kind_name BadCount = codes "BadCount"
+kind_name TooManyPins = codes "TooManyPins"
+kind_name RepeatedDriver = codes "RepeatedDriver"
+kind_name RepeatedOutput = codes "RepeatedOutput"
+kind_name BadRow = codes "BadRow"
+kind_name MixedRows = codes "MixedRows"
+kind_name BadType = codes "BadType"
+kind_name BadInit = codes "BadInit"
+kind_name UnknownInit = codes "UnknownInit"
+kind_name ManyClocks = codes "ManyClocks"
+kind_name Undriven = codes "Undriven"
+kind_name GatedClock = codes "GatedClock"
+kind_name ClockAsData = codes "ClockAsData"
+kind_name TooManySignals = codes "TooManySignals"
+kind_name Loop = codes "Loop"
+kind_name BadBinding = codes "BadBinding"
+kind_name RepeatedModel = codes "RepeatedModel"
+kind_name NoModel = codes "NoModel"
+kind_name UnknownFormal = codes "UnknownFormal"
+kind_name RepeatedFormal = codes "RepeatedFormal"
+kind_name Unbound = codes "Unbound"
+kind_name Recursion = codes "Recursion"
+kind_name TooDeep = codes "TooDeep"
+kind_name TooLarge = codes "TooLarge"

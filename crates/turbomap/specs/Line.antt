@@ -1,0 +1,31 @@
+-- The lines said, each without its LF.
+use Rattle.std.specs.Prelude.{ℕ, List, ◌++◌, codes}
+use Rattle.std.specs.Fmt.{decimal}
+
+abbrev pub no_memory_line : List ℕ
+no_memory_line = codes "no memory"
+
+abbrev pub bad_words_line : List ℕ
+bad_words_line = codes "bad command line"
+
+abbrev pub unread_line : List ℕ → List ℕ
+unread_line name = codes "cannot read " ++ name
+
+abbrev pub unwritten_line : List ℕ → List ℕ
+unwritten_line name = codes "cannot write " ++ name
+
+abbrev pub too_long_line : List ℕ → List ℕ
+too_long_line name = name ++ codes ": too long"
+
+-- a file with a fault of a kind, by its name, at a line of its text
+abbrev pub fault_line : List ℕ → ℕ → List ℕ → List ℕ
+fault_line name line kind = name ++ codes ": line " ++ decimal line ++ codes ": " ++ kind
+
+-- a file whose circuit has a gate with too many pins
+abbrev pub wide_line : List ℕ → List ℕ
+wide_line name = name ++ codes ": line 0: Wide"
+
+-- a mapped circuit: its period and its numbers of tables and of registers
+abbrev pub mapped_line : ℕ → ℕ → ℕ → List ℕ
+mapped_line period tables registers =
+    codes "period " ++ decimal period ++ codes " tables " ++ decimal tables ++ codes " registers " ++ decimal registers

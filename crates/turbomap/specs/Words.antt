@@ -1,0 +1,42 @@
+-- The reading of the words of a command line.
+use Rattle.std.specs.Prelude.{ℕ, ◌+◌, ◌-◌, Bool, true, not, ◌&&◌, ◌==◌, nat_le, if◌then◌else◌, List, [], ◌∷◌, Option, None, Some, length, option_and_then, bytes_eq, codes}
+use Rattle.std.specs.List.{list_any}
+use Rattle.tm_bits.specs.declared.TheConstants.{MOST_K}
+use Rattle.turbomap.specs.declared.words.TheConstants.{MOST_D}
+use Rattle.turbomap.specs.declared.words.Command.{Command}
+use Rattle.turbomap.specs.declared.words.Command.TheVariants.{Map}
+
+-- what the words ask for: the numbers K and D and the names of IN and OUT
+pub data Asked : Type 0 where
+  map_files : ℕ → ℕ → List ℕ → List ℕ → Asked
+
+-- a command as what is asked for
+abbrev pub seen : Command → Asked
+seen (Map words) = map_files words.k words.d words.input.now words.output.now
+
+-- one decimal digit in the range: no sign, no leading zero
+abbrev pub digit_between : ℕ → ℕ → List ℕ → Option ℕ
+digit_between least most (byte ∷ []) =
+    if nat_le (48 + least) byte && nat_le byte (48 + most) then Some (byte - 48) else None
+digit_between least most word = None
+
+-- the name is not empty and none of the others
+abbrev pub is_apart : List ℕ → List (List ℕ) → Bool
+is_apart name others = not (length name == 0) && not (list_any (λ other. bytes_eq other name) others)
+
+-- names of files are not empty and differ pairwise
+abbrev pub are_names : List (List ℕ) → Bool
+are_names [] = true
+are_names (name ∷ others) = is_apart name others && are_names others
+
+-- the words after `map`: K D IN OUT
+abbrev pub map_of : List ℕ → List ℕ → List ℕ → List ℕ → Option Asked
+map_of k d input output =
+    option_and_then (λ k. option_and_then (λ d.
+    if are_names (input ∷ output ∷ []) then Some (map_files k d input output) else None)
+    (digit_between 0 MOST_D d)) (digit_between 2 MOST_K k)
+
+-- The table of forms: what a list of words asks for, or nothing. Each form has its verb and its number of words.
+abbrev pub asked_of : List (List ℕ) → Option Asked
+asked_of (verb ∷ k ∷ d ∷ input ∷ output ∷ []) = if bytes_eq verb (codes "map") then map_of k d input output else None
+asked_of words = None

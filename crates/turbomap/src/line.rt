@@ -1,0 +1,59 @@
+// The lines said, each without its LF.
+
+ghost use Rattle.std.specs.Prelude.{◌≡◌, IfOk, string_bytes};
+ghost use Rattle.turbomap.specs.Line.{unread_line, unwritten_line, too_long_line, fault_line, wide_line, mapped_line};
+
+use std::alloc::{AllocError, Global};
+
+/// Says that there is no memory.
+pub const NO_MEMORY: &str = "no memory";
+
+/// Says that the words have no reading.
+pub const BAD_WORDS: &str = "bad command line";
+
+/// Says that the file could not be read.
+pub fn unread_line(alloc: Global, name: &str) -> Result<String, AllocError>
+    ensures { IfOk result (λ line. string_bytes line ≡ unread_line name.now) }
+{
+    format!(in alloc; "cannot read {name}")
+}
+
+/// Says that the file could not be written.
+pub fn unwritten_line(alloc: Global, name: &str) -> Result<String, AllocError>
+    ensures { IfOk result (λ line. string_bytes line ≡ unwritten_line name.now) }
+{
+    format!(in alloc; "cannot write {name}")
+}
+
+/// Says that the file holds more bytes than its limit.
+pub fn too_long_line(alloc: Global, name: &str) -> Result<String, AllocError>
+    ensures { IfOk result (λ line. string_bytes line ≡ too_long_line name.now) }
+{
+    format!(in alloc; "{name}: too long")
+}
+
+/// Says a fault of the file's text, by the name of its kind, and its line.
+pub fn fault_line(alloc: Global, name: &str, line: u32, kind: &str) -> Result<String, AllocError>
+    ensures { IfOk result (λ said. string_bytes said ≡ fault_line name.now line kind.now) }
+{
+    format!(in alloc; "{name}: line {line}: {kind}")
+}
+
+/// Says that a gate of the file's circuit has too many pins.
+pub fn wide_line(alloc: Global, name: &str) -> Result<String, AllocError>
+    ensures { IfOk result (λ line. string_bytes line ≡ wide_line name.now) }
+{
+    format!(in alloc; "{name}: line 0: Wide")
+}
+
+/// Says the period of a mapped circuit and its numbers of tables and registers.
+pub fn mapped_line(
+    alloc: Global,
+    period: u32,
+    tables: u32,
+    registers: u32,
+) -> Result<String, AllocError>
+    ensures { IfOk result (λ line. string_bytes line ≡ mapped_line period tables registers) }
+{
+    format!(in alloc; "period {period} tables {tables} registers {registers}")
+}

@@ -1,0 +1,50 @@
+//! TurboMap covers a sequential circuit with lookup tables and writes the mapped circuit.
+//! `run` is all that the program does, over any store of files and any listener of lines; `main` hands
+//! it the files, the standard output and the words of the command line.
+#![tactic(auto)]
+
+mod kind;
+mod line;
+pub mod map;
+mod prepare;
+mod refusal;
+mod say;
+pub mod status;
+#[cfg(test)]
+mod tests;
+pub mod text;
+pub mod top;
+pub mod words;
+
+use std::env::Env;
+use std::io::ErrorKind;
+use std::process::ExitCode;
+use std::{env, io};
+use tm_store::{FileStore, OutSay};
+
+/// The exit status where there is no memory for the words.
+const NO_MEMORY: u8 = 1;
+
+/// The exit status where the words are no text.
+const NO_TEXT: u8 = 8;
+
+fn main(rt: HostRuntime) -> ExitCode {
+    match words_given(&rt) {
+        Ok(words) => {
+            let mut store = FileStore::new(&rt);
+            let mut say = OutSay::new(&rt);
+            ExitCode::from(top::run(rt.alloc(), &words, &mut store, &mut say))
+        }
+        Err(error) if error.kind() == ErrorKind::OutOfMemory => ExitCode::from(NO_MEMORY),
+        Err(_) => ExitCode::from(NO_TEXT),
+    }
+}
+
+// The words after the program's name.
+fn words_given<R: Env + AllocGlobal>(rt: &R) -> io::Result<Vec<String>> {
+    let mut words = Vec::new(rt.alloc());
+    for word in env::args(rt)?.skip(1) {
+        words.push(word)?;
+    }
+    Ok(words)
+}

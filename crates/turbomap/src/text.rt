@@ -1,0 +1,47 @@
+// The text of a file, read whole and within a limit.
+
+ghost use Rattle.std.specs.Prelude.{◌≡◌, ℕ, ◌-◌, ◌^◌, ◌<◌, ◌≤◌, List, length, IfOk, IsErrOf};
+ghost use Rattle.tm_store.specs.Faults.{Rose};
+ghost use Rattle.turbomap.specs.Outcome.{Holds};
+ghost use Rattle.turbomap.specs.declared.text.TextFault.TheVariants.{Failed, TooLong};
+
+use std::alloc::Global;
+use thiserror::Error;
+use tm_store::{Store, StoreFault};
+
+/// The limit on a text that is to be mapped, in bytes.
+pub const SOURCE_BYTES: u64 = 16_777_216;
+
+/// Why the text of a file was not given.
+#[derive(Clone, Copy, Debug, PartialEq, Eq, Error)]
+pub enum TextFault {
+    #[error("the file could not be read")]
+    Failed,
+    #[error("the file is too long")]
+    TooLong,
+    #[error("no memory")]
+    NoMemory,
+}
+
+/// The whole text of a file of at most `limit` bytes.
+pub fn read_text<S: Store>(
+    alloc: Global,
+    name: &str,
+    limit: u64,
+    store: &mut S,
+) -> Result<Vec<u8>, TextFault>
+    requires { limit < 2 ^ 64 - 1 }
+    ensures text { IfOk result (λ text. Holds (S.held store.old) name.now (λ held. held ≡ text.items)) }
+    ensures short { IfOk result (λ text. length text.items ≤ limit) }
+    ensures too_long { IsErrOf result TooLong → Holds (S.held store.old) name.now (λ held. limit < length held) }
+    ensures cause { IsErrOf result Failed → Rose (S.read_faults store.old name.now) (S.read_faults store.new name.now) }
+    ensures same { S.held store.new ≡ S.held store.old }
+    ensures write_counts { (n : List ℕ) → S.write_faults store.old n ≤ S.write_faults store.new n }
+{
+    match store.read(alloc, name, limit + 1) {
+        Ok(text) if text.len() as u64 <= limit => Ok(text),
+        Ok(_) => Err(TextFault::TooLong),
+        Err(StoreFault::Failed) => Err(TextFault::Failed),
+        Err(StoreFault::NoMemory) => Err(TextFault::NoMemory),
+    }
+}

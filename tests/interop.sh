@@ -1,0 +1,41 @@
+#!/usr/bin/env bash
+# What Yosys and ABC write is read, and what is written is read by ABC as an equivalent circuit.
+# Installs nothing: skips where a tool or the program is missing. docs/FORMATS.md names the packages.
+cd "$(dirname "$0")/.." || exit 1
+
+program=crates/turbomap/out/turbomap
+yosys=$(command -v yosys)
+abc=$(command -v berkeley-abc || command -v abc || command -v yosys-abc)
+
+if [ ! -x "$program" ] || [ -z "$yosys" ] || [ -z "$abc" ]; then
+    echo "interop: skipped, it wants the built program, yosys and berkeley-abc"
+    exit 0
+fi
+
+folder=$(mktemp -d)
+trap 'rm -rf "$folder"' EXIT
+failed=0
+
+fail() {
+    echo "interop: $*"
+    failed=1
+}
+
+# Maps a text and asks ABC whether the two circuits are sequentially equivalent.
+map_and_compare() {
+    local text=$1 mapped=$2
+    "$program" map 4 0 "$text" "$mapped" >"$folder/said" || { fail "$text is refused: $(cat "$folder/said")"; return; }
+    "$abc" -c "dsec $text $mapped" >"$folder/verdict" 2>&1
+    grep -q 'Networks are equivalent' "$folder/verdict" || fail "$mapped isn't shown equivalent: $(tail -n 3 "$folder/verdict")"
+}
+
+for design in gray_counter serial_sender; do
+    "$yosys" -q -p "read_verilog tests/interop/$design.v; synth -flatten -top $design; dfflegalize -cell \$_DFF_P_ 01; abc -g simple; opt_clean -purge; autoname; write_blif $folder/$design.blif" ||
+        fail "yosys ends with an error on $design"
+    map_and_compare "$folder/$design.blif" "$folder/$design.out.blif"
+    "$abc" -c "read_blif $folder/$design.blif; strash; write_blif $folder/$design.abc.blif" >/dev/null 2>&1
+    map_and_compare "$folder/$design.abc.blif" "$folder/$design.abc.out.blif"
+done
+
+[ "$failed" -eq 0 ] && echo "interop: 4 texts passed"
+exit "$failed"

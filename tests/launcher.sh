@@ -1,0 +1,46 @@
+#!/usr/bin/env bash
+# The launcher on the examples: the line that is said, the text of the first command of the README, and a refusal.
+# Skips where the program isn't built yet; `rt ci` leaves it built.
+cd "$(dirname "$0")/.." || exit 1
+
+if [ ! -x crates/turbomap/out/turbomap ]; then
+    echo "launcher: skipped, the program isn't built"
+    exit 0
+fi
+
+folder=$(mktemp -d)
+trap 'rm -rf "$folder"' EXIT
+failed=0
+
+expect() {
+    local what=$1 wanted=$2 got=$3
+    if [ "$wanted" != "$got" ]; then
+        printf 'launcher: %s: wanted %s, got %s\n' "$what" "$wanted" "$got"
+        failed=1
+    fi
+}
+
+said() {
+    expect "$1 of $2" "$3" "$(./turbomap map "$1" 0 "examples/$2.blif" "$folder/$2.blif")"
+}
+
+said 2 toggle "period 1 tables 1 registers 1"
+said 2 two_levels "period 2 tables 3 registers 5"
+said 2 ring_of_latches "period 0 tables 0 registers 2"
+said 2 counter "period 1 tables 2 registers 2"
+said 3 traffic_light "period 1 tables 5 registers 2"
+
+expect "text of toggle" "$(grep -v '^#' examples/toggle.blif | sed 's/^10 1$/x/; s/^01 1$/10 1/; s/^x$/01 1/')" "$(cat "$folder/toggle.blif")"
+
+# File names are those of the caller's folder.
+here=$PWD
+cp examples/toggle.blif "$folder/in.blif"
+expect "a name from another folder" "period 1 tables 1 registers 1" "$(cd "$folder" && "$here/turbomap" map 2 0 in.blif out.blif)"
+
+./turbomap map 2 0 "$folder/missing.blif" "$folder/none.blif" >"$folder/said"
+expect "status of a missing file" 3 $?
+expect "line of a missing file" "cannot read $folder/missing.blif" "$(cat "$folder/said")"
+[ ! -e "$folder/none.blif" ] || { echo "launcher: a file was written"; failed=1; }
+
+[ "$failed" -eq 0 ] && echo "launcher: 9 checks passed"
+exit "$failed"
