@@ -1,7 +1,7 @@
 #!/usr/bin/env bash
 # The launcher on the examples: the line that is said, the text of the first command of the README, and a refusal.
 # Skips where the program isn't built yet; `rt ci` leaves it built.
-cd "$(dirname "$0")/.." || exit 1
+cd "$(dirname "$0")/../.." || exit 1
 
 if [ ! -x crates/turbomap/out/turbomap ]; then
     echo "launcher: skipped, the program isn't built"

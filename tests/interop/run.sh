@@ -1,7 +1,7 @@
 #!/usr/bin/env bash
 # What Yosys and ABC write is read, and what is written is read by ABC as an equivalent circuit.
 # Installs nothing: skips where a tool or the program is missing. docs/FORMATS.md names the packages.
-cd "$(dirname "$0")/.." || exit 1
+cd "$(dirname "$0")/../.." || exit 1
 
 program=crates/turbomap/out/turbomap
 yosys=$(command -v yosys)
