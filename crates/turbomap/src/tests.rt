@@ -288,6 +288,20 @@ fn words_and_failures(rt: HostRuntime) -> Result<(), Fail> {
             "bad command line\n",
         ),
         (
+            ["large", "7", "2", "0"].as_slice(),
+            &[],
+            &[],
+            2,
+            "bad command line\n",
+        ),
+        (
+            ["bound", "2", "0", "9", "back.blif"].as_slice(),
+            &[],
+            &[],
+            2,
+            "bad command line\n",
+        ),
+        (
             ["map", "2", "0", "a", ""].as_slice(),
             &[],
             &[],
@@ -333,5 +347,24 @@ fn the_longest_file_is_read(rt: HostRuntime) -> Result<(), Fail> {
     let ends = run_on(alloc, words, &text, &[], &[])?;
     assert_eq!(rt; ends.status, 6);
     assert!(rt; ends.said.as_slice() == b"t.blif: too long\n".as_slice());
+    Ok(())
+}
+
+// As many inputs as a text may have, and one more.
+#[test]
+fn limits_of_a_text(rt: HostRuntime) -> Result<(), Fail> {
+    let alloc = rt.alloc();
+    let words = ["map", "2", "0", "t.blif", "o.blif"].as_slice();
+    let mut text = Vec::from_slice(alloc, b".inputs")?;
+    for number in 0..100_000u32 {
+        text.extend_from_slice(format!(in alloc; " i{number}")?.as_bytes())?;
+    }
+    let ends = run_on(alloc, words, &text, &[], &[])?;
+    assert_eq!(rt; ends.status, 0);
+    assert!(rt; ends.said.as_slice() == b"period 0 tables 0 registers 0\n".as_slice());
+    text.extend_from_slice(b" more")?;
+    let ends = run_on(alloc, words, &text, &[], &[])?;
+    assert_eq!(rt; ends.status, 5);
+    assert!(rt; ends.said.as_slice() == b"t.blif: line 0: TooManySignals\n".as_slice());
     Ok(())
 }
