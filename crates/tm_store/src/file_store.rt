@@ -1,7 +1,7 @@
 // Files of the system by their paths. What they hold is the system's, so this store tells nothing;
 // it counts its faults.
 
-ghost use Rattle.std.specs.Prelude.{◌^◌, ◌<◌, None};
+ghost use Rattle.std.specs.Prelude.{◌≡◌, ◌^◌, ◌<◌, None};
 
 use crate::store::{Store, StoreFault, WriteFailed};
 use std::alloc::Global;
@@ -25,7 +25,10 @@ pub struct FileStore<R: Files + Drop> {
 
 impl<R: Files + Drop> FileStore<R> {
     /// The files of the runtime, with no fault counted.
-    pub fn new(files: R) -> FileStore<R> {
+    pub fn new(files: R) -> FileStore<R>
+        ensures reads { result.failed_reads ≡ 0 }
+        ensures writes { result.failed_writes ≡ 0 }
+    {
         FileStore {
             files,
             failed_reads: 0,

@@ -1,7 +1,7 @@
 // Lines on standard output. What reaches it is the system's, so this sayer tells nothing; it counts
 // its faults.
 
-ghost use Rattle.std.specs.Prelude.{◌^◌, ◌<◌, None};
+ghost use Rattle.std.specs.Prelude.{◌≡◌, ◌^◌, ◌<◌, None};
 
 use crate::say::{Say, SayFailed};
 use std::io;
@@ -17,7 +17,9 @@ pub struct OutSay<R: Print + Drop> {
 
 impl<R: Print + Drop> OutSay<R> {
     /// The standard output of the runtime, with no fault counted.
-    pub fn new(out: R) -> OutSay<R> {
+    pub fn new(out: R) -> OutSay<R>
+        ensures { result.faults ≡ 0 }
+    {
         OutSay { out, faults: 0 }
     }
 }
