@@ -15,4 +15,6 @@ pub mod SignalLoops
 pub mod SignalParts
 pub mod SignalUses
 pub mod SignalWhole
+pub mod CircleDecided
 pub mod SomeCircuit
+pub mod ShortNames

@@ -307,59 +307,62 @@ shaped_all (b ∷ blocks) s =
 
 -- ---- names
 
-abbrev AreNames : List (List ℕ) → Type 0
-AreNames names = AllByRecursion (IsName 1023) names
+-- each name is what `P` says
+abbrev AreAll : (List ℕ → Type 0) → List (List ℕ) → Type 0
+AreAll P names = AllByRecursion P names
 
-abbrev IsNamed : Line → Type 0
-IsNamed line = AreNames line.words
+-- each word of each line is what `P` says
+abbrev pub AreWords : (List ℕ → Type 0) → List Line → Type 0
+AreWords P lines = AllByRecursion (λ line. AreAll P line.words) lines
 
-pub heads_named : (lines : List Line) → AllByRecursion IsNamed lines → AllByRecursion IsNamed (heads_of (blocks_of lines))
+pub heads_named : (P : List ℕ → Type 0) (lines : List Line) → AreWords P lines → AreWords P (heads_of (blocks_of lines))
 unfolding blocks_of
-heads_named [] n = tt
-heads_named (l ∷ lines) n = by_test (is_row l) refl (heads_named lines n.1)
+heads_named P [] n = tt
+heads_named P (l ∷ lines) n = by_test (is_row l) refl (heads_named P lines n.1)
   where
-    by_test : (t : Bool) → is_row l ≡ t → AllByRecursion IsNamed (heads_of (blocks_of lines)) → AllByRecursion IsNamed (heads_of (blocks_of (l ∷ lines)))
+    by_test : (t : Bool) → is_row l ≡ t → AreWords P (heads_of (blocks_of lines)) → AreWords P (heads_of (blocks_of (l ∷ lines)))
     by_test true is rest = rw is rest
     by_test false is rest = rw is (n.0, rest)
 
-drivers_named : (k : Keyword) (ws : List (List ℕ)) → has_bad_count k ws ≡ false → AreNames ws → AreNames (drivers_in k ws)
-drivers_named Inputs ws c n = n
-drivers_named Names ws c n = (all_at (IsName 1023) ws (length ws - 1) [] n (some_words ws c), tt)
-drivers_named Latch ws c n =
+drivers_named : (P : List ℕ → Type 0) (k : Keyword) (ws : List (List ℕ)) → has_bad_count k ws ≡ false → AreAll P ws → AreAll P (drivers_in k ws)
+drivers_named P Inputs ws c n = n
+drivers_named P Names ws c n = (all_at P ws (length ws - 1) [] n (some_words ws c), tt)
+drivers_named P Latch ws c n =
     let two : 2 ≤ length ws = ltb-false (length ws) 2 (or_left_false _ _ c) in
-    (all_at (IsName 1023) ws 1 [] n (omega arith), tt)
-drivers_named Outputs ws c n = tt
-drivers_named Clock ws c n = tt
-drivers_named Model ws c n = tt
-drivers_named End ws c n = tt
-drivers_named Omitted ws c n = tt
-drivers_named Unknown ws c n = tt
-drivers_named Row ws c n = tt
+    (all_at P ws 1 [] n (omega arith), tt)
+drivers_named P Outputs ws c n = tt
+drivers_named P Clock ws c n = tt
+drivers_named P Model ws c n = tt
+drivers_named P End ws c n = tt
+drivers_named P Omitted ws c n = tt
+drivers_named P Unknown ws c n = tt
+drivers_named P Row ws c n = tt
 
-clocks_named : (k : Keyword) (ws : List (List ℕ)) → has_bad_count k ws ≡ false → AreNames ws → AreNames (clocks_in k ws)
-clocks_named Clock ws c n = n
-clocks_named Latch ws c n = by_test (nat_lt 3 (length ws) && not (bytes_eq (word_at ws 3) (codes "NIL"))) refl
+clocks_named : (P : List ℕ → Type 0) (k : Keyword) (ws : List (List ℕ)) → has_bad_count k ws ≡ false → AreAll P ws → AreAll P (clocks_in k ws)
+clocks_named P Clock ws c n = n
+clocks_named P Latch ws c n = by_test (nat_lt 3 (length ws) && not (bytes_eq (word_at ws 3) (codes "NIL"))) refl
   where
-    by_test : (t : Bool) → (nat_lt 3 (length ws) && not (bytes_eq (word_at ws 3) (codes "NIL"))) ≡ t → AreNames (clocks_in Latch ws)
+    by_test : (t : Bool) → (nat_lt 3 (length ws) && not (bytes_eq (word_at ws 3) (codes "NIL"))) ≡ t → AreAll P (clocks_in Latch ws)
     by_test true is =
         let four : 3 < length ws = ltb-true 3 (length ws) (and_left _ _ is) in
-        rw is (all_at (IsName 1023) ws 3 [] n four, tt)
+        rw is (all_at P ws 3 [] n four, tt)
     by_test false is = rw is tt
-clocks_named Inputs ws c n = tt
-clocks_named Names ws c n = tt
-clocks_named Outputs ws c n = tt
-clocks_named Model ws c n = tt
-clocks_named End ws c n = tt
-clocks_named Omitted ws c n = tt
-clocks_named Unknown ws c n = tt
-clocks_named Row ws c n = tt
+clocks_named P Inputs ws c n = tt
+clocks_named P Names ws c n = tt
+clocks_named P Outputs ws c n = tt
+clocks_named P Model ws c n = tt
+clocks_named P End ws c n = tt
+clocks_named P Omitted ws c n = tt
+clocks_named P Unknown ws c n = tt
+clocks_named P Row ws c n = tt
 
-names_all : (g : Keyword → List (List ℕ) → List (List ℕ)) → ((k : Keyword) (ws : List (List ℕ)) → has_bad_count k ws ≡ false → AreNames ws → AreNames (g k ws))
-    → (blocks : List Block) → AllByRecursion IsSettled blocks → AllByRecursion IsNamed (heads_of blocks) → AreNames (over_lines g (heads_of blocks))
-names_all g each [] s n = tt
-names_all g each (b ∷ blocks) s n =
-    all_both (IsName 1023) (g (keyword_in b.head) (further b.head)) (over_lines g (heads_of blocks))
-    (each (keyword_in b.head) (further b.head) s.0.count (all_after_first (IsName 1023) b.head.words n.0)) (names_all g each blocks s.1 n.1)
+names_all : (P : List ℕ → Type 0) (g : Keyword → List (List ℕ) → List (List ℕ))
+    → ((k : Keyword) (ws : List (List ℕ)) → has_bad_count k ws ≡ false → AreAll P ws → AreAll P (g k ws))
+    → (blocks : List Block) → AllByRecursion IsSettled blocks → AreWords P (heads_of blocks) → AreAll P (over_lines g (heads_of blocks))
+names_all P g each [] s n = tt
+names_all P g each (b ∷ blocks) s n =
+    all_both P (g (keyword_in b.head) (further b.head)) (over_lines g (heads_of blocks))
+    (each (keyword_in b.head) (further b.head) s.0.count (all_after_first P b.head.words n.0)) (names_all P g each blocks s.1 n.1)
 
 top_named : IsName 1023 (codes "top")
 top_named = record {
@@ -368,7 +371,7 @@ top_named = record {
   plain = ((lit≤ tt, lit≤ tt, (omega arith), (omega arith)), ((lit≤ tt, lit≤ tt, (omega arith), (omega arith)), ((lit≤ tt, lit≤ tt, (omega arith), (omega arith)), tt)));
 }
 
-model_word : (k : Keyword) (ws : List (List ℕ)) → is_model k ≡ true → has_bad_count k ws ≡ false → AreNames ws → IsName 1023 (word_at ws 0)
+model_word : (k : Keyword) (ws : List (List ℕ)) → is_model k ≡ true → has_bad_count k ws ≡ false → AreAll (IsName 1023) ws → IsName 1023 (word_at ws 0)
 model_word Model ws m c n =
     let one : length ws ≡ 1 = eqb-true (length ws) 1 (not_false _ c) in
     all_at (IsName 1023) ws 0 [] n (omega arith)
@@ -382,7 +385,7 @@ model_word Omitted ws m c n = cc
 model_word Unknown ws m c n = cc
 model_word Row ws m c n = cc
 
-pub model_named : (blocks : List Block) → AllByRecursion IsSettled blocks → AllByRecursion IsNamed (heads_of blocks) → IsName 1023 (name_among (heads_of blocks))
+pub model_named : (blocks : List Block) → AllByRecursion IsSettled blocks → AreWords (IsName 1023) (heads_of blocks) → IsName 1023 (name_among (heads_of blocks))
 model_named [] s n = top_named
 model_named (b ∷ blocks) s n = by_test (is_model (keyword_in b.head)) refl (model_named blocks s.1 n.1)
   where
@@ -396,16 +399,30 @@ orderly lines named lawful =
     let none : fault_in_blocks [] blocks ≡ None = or_second_none _ _ lawful in
     let ordered : AreOrdered (heads_of blocks) = ordered_all [] blocks none (record { drivers = tt; outputs = tt; clocks = tt }) in
     let settled : AllByRecursion IsSettled blocks = settled_all [] blocks none in
-    let words : AllByRecursion IsNamed (heads_of blocks) = heads_named lines named in
+    let words : AreWords (IsName 1023) (heads_of blocks) = heads_named (IsName 1023) lines named in
     record {
       model = model_named blocks settled words;
-      drivers = rw (over_told drivers_told drivers_in told_drivers blocks) (names_all drivers_in drivers_named blocks settled words);
-      clocks = rw (over_told clocks_told clocks_in told_clocks blocks) (names_all clocks_in clocks_named blocks settled words);
+      drivers = rw (over_told drivers_told drivers_in told_drivers blocks) (names_all (IsName 1023) drivers_in (drivers_named (IsName 1023)) blocks settled words);
+      clocks = rw (over_told clocks_told clocks_in told_clocks blocks) (names_all (IsName 1023) clocks_in (clocks_named (IsName 1023)) blocks settled words);
       driven_once = rw (over_told drivers_told drivers_in told_drivers blocks) ordered.drivers;
       outputs_once = rw (over_told outputs_told outputs_in told_outputs blocks) ordered.outputs;
       one_clock = rw (over_told clocks_told clocks_in told_clocks blocks) ordered.clocks;
       shaped = shaped_all blocks settled;
     }
+
+-- What each word of lawful lines is, each name of a driver is.
+pub drivers_kept : (P : List ℕ → Type 0) (lines : List Line) → AreWords P lines → fault_of_lines lines ≡ None → AreAll P (over drivers_told (model_in lines).body)
+drivers_kept P lines named lawful =
+    let blocks = blocks_of lines in
+    let settled : AllByRecursion IsSettled blocks = settled_all [] blocks (or_second_none _ _ lawful) in
+    rw (over_told drivers_told drivers_in told_drivers blocks) (names_all P drivers_in (drivers_named P) blocks settled (heads_named P lines named))
+
+-- What each word of lawful lines is, each name of a clock is.
+pub clocks_kept : (P : List ℕ → Type 0) (lines : List Line) → AreWords P lines → fault_of_lines lines ≡ None → AreAll P (over clocks_told (model_in lines).body)
+clocks_kept P lines named lawful =
+    let blocks = blocks_of lines in
+    let settled : AllByRecursion IsSettled blocks = settled_all [] blocks (or_second_none _ _ lawful) in
+    rw (over_told clocks_told clocks_in told_clocks blocks) (names_all P clocks_in (clocks_named P) blocks settled (heads_named P lines named))
 
 -- The drivers of lawful lines stand once.
 pub driven_once : (lines : List Line) → fault_of_lines lines ≡ None → AreDistinct (over drivers_told (model_in lines).body)

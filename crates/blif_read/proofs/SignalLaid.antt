@@ -126,7 +126,7 @@ named_once body (Some k) e d h =
 
 -- ---- the clock
 
-first_of : {A : Type 0} (P : A → Type 0) (xs : List A) (x : A) → AllByRecursion P xs → slice_get xs 0 ≡ Some x → P x
+pub first_of : {A : Type 0} (P : A → Type 0) (xs : List A) (x : A) → AllByRecursion P xs → slice_get xs 0 ≡ Some x → P x
 first_of P [] x h e = absurd (let n : ◌≡◌ None (Some x) = e in cc)
 first_of P (y ∷ xs) x h e = let is : y ≡ x = cc in subst P is h.0
 

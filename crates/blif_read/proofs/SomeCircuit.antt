@@ -1,5 +1,5 @@
--- A text has a circuit or a fault: where no name is at fault, the statements spell a circuit.
-use Rattle.std.proofs.Common.{◌≡◌, ◌≢◌, ℕ, ◌+◌, suc, Bool, true, false, ◌&&◌, List, [], ◌∷◌, ◌++◌, Option, None, Some, Result, Ok, Err, map, flat_map, slice_get, refl, sym, ◌∙◌, ap, arith, bytes_eq, MatchOption, MatchResult, IsOkAnd}
+-- A text has a circuit or a fault: where no name is at fault, the statements spell a circuit, which has a circle of gates or none.
+use Rattle.std.proofs.Common.{◌≡◌, ◌≢◌, ◌⊎◌, inl, inr, ℕ, ◌+◌, suc, Bool, true, false, ◌&&◌, List, [], ◌∷◌, ◌++◌, Option, None, Some, Result, Ok, Err, map, flat_map, slice_get, refl, sym, ◌∙◌, ap, arith, bytes_eq, MatchOption, MatchResult, IsOkAnd}
 use Rattle.std.specs.List.{list_any, list_all, position_or_len}
 use Rattle.std.proofs.lemmas.List.{map-append}
 use Rattle.std.proofs.lemmas.List.Folds.{list_all-append}
@@ -22,6 +22,7 @@ use Rattle.blif_read.specs.Text.{model_in, kind_of, IsCircuitOf, IsCircuitOfLine
 use Rattle.blif_read.proofs.RowLemmas.{and_left, and_right}
 use Rattle.blif_read.proofs.OrderlyLemmas.{driven_once}
 use Rattle.blif_read.proofs.OneCircuit.{one_circuit}
+use Rattle.blif_read.proofs.CircleDecided.{circle_decided}
 use Rattle.blif_read.proofs.SignalFaults.{faultless, uses_known, outputs_known}
 
 -- the number of the signal with a name
@@ -126,33 +127,36 @@ some_circuit limit m h =
       },
     )
 
--- ---- no text has neither
+-- ---- a circuit or a fault
 
-model_decided : (limit : ℕ) (m : Model) → ((c : Plain) → ¬ IsCircuitOfModel limit m c) → ((f : Faulty) → ¬ IsFaultOfModel limit m f) → ⊥
-model_decided limit m no_circuit no_fault = by_names (fault_in_names limit m.body) refl
+model_decided : (limit : ℕ) (m : Model) → ((c : Plain) × IsCircuitOfModel limit m c) ⊎ ((f : Faulty) × IsFaultOfModel limit m f)
+model_decided limit m = by_names (fault_in_names limit m.body) refl
   where
-    by_names : (o : Option Faulty) → fault_in_names limit m.body ≡ o → ⊥
-    by_names (Some f) is = no_fault f (rw is refl)
-    by_names None is =
-        let some = some_circuit limit m is in
-        let open_ended : ¬ HasCircle some.0.drives = λ circle. no_fault (0, Loop) (rw is (refl, (some.0, some.1, circle))) in
-        no_circuit some.0 (record { lawful = is; spelled = some.1; open_ended = open_ended })
+    by_circle : (c : Plain) → IsSpelled m c → fault_in_names limit m.body ≡ None → HasCircle c.drives ⊎ ¬ HasCircle c.drives
+        → ((c : Plain) × IsCircuitOfModel limit m c) ⊎ ((f : Faulty) × IsFaultOfModel limit m f)
+    by_circle c spelled is (inl circle) = inr ((0, Loop), rw is (refl, (c, spelled, circle)))
+    by_circle c spelled is (inr open_ended) = inl (c, record { lawful = is; spelled = spelled; open_ended = open_ended })
 
-lines_decided : (limits : Limits) (lines : List Line) → ((c : Plain) → ¬ IsCircuitOfLines limits lines c) → ((f : Faulty) → ¬ IsFaultOfLines limits lines f) → ⊥
-lines_decided limits lines no_circuit no_fault = by_lines (fault_of_lines lines) refl
+    by_names : (o : Option Faulty) → fault_in_names limit m.body ≡ o → ((c : Plain) × IsCircuitOfModel limit m c) ⊎ ((f : Faulty) × IsFaultOfModel limit m f)
+    by_names (Some f) is = inr (f, rw is refl)
+    by_names None is = let some = some_circuit limit m is in by_circle some.0 some.1 is (circle_decided some.0.drives)
+
+lines_decided : (limits : Limits) (lines : List Line) → ((c : Plain) × IsCircuitOfLines limits lines c) ⊎ ((f : Faulty) × IsFaultOfLines limits lines f)
+lines_decided limits lines = by_lines (fault_of_lines lines) refl
   where
-    by_lines : (o : Option Faulty) → fault_of_lines lines ≡ o → ⊥
-    by_lines (Some f) is = no_fault f (rw is refl)
-    by_lines None is =
-        model_decided limits.signals (model_in lines) (λ c ic. no_circuit c (record { lawful = is; circuit = ic }))
-        (λ f h. no_fault f (rw is h))
+    by_lines : (o : Option Faulty) → fault_of_lines lines ≡ o → ((c : Plain) × IsCircuitOfLines limits lines c) ⊎ ((f : Faulty) × IsFaultOfLines limits lines f)
+    by_lines (Some f) is = inr (f, rw is refl)
+    by_lines None is = elim (model_decided limits.signals (model_in lines)) [
+      | inl circuit ↦ inl (circuit.0, record { lawful = is; circuit = circuit.1 })
+      | inr fault ↦ inr (fault.0, rw is fault.1)
+    ]
 
 text_decided : (limits : Limits) (r : Result (List Line) LexFault) → ((e : LexFault) → r ≡ Err e → e ≢ lex.NoMemory)
-    → ((c : Plain) → ¬ IsOkAnd r (λ lines. IsCircuitOfLines limits lines c))
-    → ((f : Faulty) → ¬ MatchResult r (λ lines. IsFaultOfLines limits lines f) (λ first. IsLexed first f)) → ⊥
-text_decided limits (Ok lines) named no_circuit no_fault = lines_decided limits lines no_circuit no_fault
-text_decided limits (Err (lex.Text line kind)) named no_circuit no_fault = no_fault (line, kind_of kind) refl
-text_decided limits (Err lex.NoMemory) named no_circuit no_fault = named lex.NoMemory refl refl
+    → ((c : Plain) × IsOkAnd r (λ lines. IsCircuitOfLines limits lines c))
+    ⊎ ((f : Faulty) × MatchResult r (λ lines. IsFaultOfLines limits lines f) (λ first. IsLexed first f))
+text_decided limits (Ok lines) named = lines_decided limits lines
+text_decided limits (Err (lex.Text line kind)) named = inr ((line, kind_of kind), refl)
+text_decided limits (Err lex.NoMemory) named = absurd (named lex.NoMemory refl refl)
 
 -- the words of a text are never want of memory
 fault_is_text : (name : ℕ) (lines : List Line) (e : LexFault) (rest : List LexFault) → faults_of name false lines ≡ e ∷ rest → e ≢ lex.NoMemory
@@ -175,9 +179,9 @@ words_named : (name : ℕ) (text : List ℕ) (e : LexFault) → words_of name fa
 unfolding words_of
 words_named name text e h = unless_text (faults_of name false (lines_of text)) (lines_of text) (fault_is_text name (lines_of text)) e h
 
--- No text has neither a circuit nor a fault.
-pub decided : (limits : Limits) (text : List ℕ) → ((c : Plain) → ¬ IsCircuitOf limits text c) → ((f : Faulty) → ¬ IsFaultOf limits text f) → ⊥
-decided limits text no_circuit no_fault = text_decided limits (words_of limits.name false text) (words_named limits.name text) no_circuit no_fault
+-- A text has a circuit or a first fault.
+pub decided : (limits : Limits) (text : List ℕ) → ((c : Plain) × IsCircuitOf limits text c) ⊎ ((f : Faulty) × IsFaultOf limits text f)
+decided limits text = text_decided limits (words_of limits.name false text) (words_named limits.name text)
 
 -- ---- one circuit, one fault
 

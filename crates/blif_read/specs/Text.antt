@@ -1,6 +1,7 @@
 -- The circuit and the first fault of a text with one model.
-use Rattle.std.specs.Prelude.{◌≡◌, ℕ, false, List, Option, None, option_map, unwrap_or, find, codes, MatchOption, MatchResult, IsOkAnd}
+use Rattle.std.specs.Prelude.{◌≡◌, ℕ, ◌≤◌, ◌++◌, false, All, length, List, Option, None, option_map, unwrap_or, find, codes, MatchOption, MatchResult, IsOkAnd}
 use Rattle.tm_circuit.specs.Plain.{Plain}
+use Rattle.tm_circuit.specs.Sound as sound
 use Rattle.blif_lex.specs.Words.{Line, words_of}
 use Rattle.blif_lex.specs.declared.fault.LexFault.{LexFault}
 use Rattle.blif_lex.specs.declared.fault.LexFault.TheVariants as lex
@@ -46,6 +47,10 @@ pub record IsCircuitOfLines (limits : Limits) (lines : List Line) (c : Plain) : 
 -- The circuit of a text with one model.
 abbrev pub IsCircuitOf : Limits → List ℕ → Plain → Type 0
 IsCircuitOf limits text c = IsOkAnd (words_of limits.name false text) (λ lines. IsCircuitOfLines limits lines c)
+
+-- No name of a signal or of the clock has more than so many bytes.
+abbrev pub HasNamesWithin : ℕ → Plain → Type 0
+HasNamesWithin most c = All (λ name. length name ≤ most) (c.names ++ sound.clock_name c.clock)
 
 -- The first fault of a text's lines: of one line in order, or else of the statements as a whole.
 abbrev pub IsFaultOfLines : Limits → List Line → Faulty → Type 0

@@ -16,13 +16,6 @@ use std::alloc::Global;
 use tm_bits::NoMemory;
 use tm_circuit::{Clock, GatePart, LatchPart, Name, Parts, Signal};
 
-/// A copy of the name.
-fn copy_of(alloc: Global, name: &Name) -> Result<Name, NoMemory>
-    ensures { IfOk result (λ copy. copy ≡ name.now) }
-{
-    Ok(Name::new(Vec::from_slice(alloc, name.bytes())?))
-}
-
 /// The signal with this name.
 fn signal_named(signals: &Names, name: &Name) -> Signal
     requires few { length signals.now ≤ 900000 }
@@ -71,7 +64,7 @@ fn push_input(
     ensures { OnOk result (inputs.new.items ≡ inputs.old.items ++ unclocked (option_copied clock.entry) (name.now ∷ [])) }
 {
     if !is_clock(clock, name.bytes()) {
-        inputs.push(copy_of(alloc, name)?)?;
+        inputs.push(name.try_clone(alloc)?)?;
     }
     Ok(())
 }
@@ -122,7 +115,7 @@ fn push_latch(
     } = what
     {
         let next = signal_named(signals, next);
-        let name = copy_of(alloc, name)?;
+        let name = name.try_clone(alloc)?;
         latches.push(LatchPart {
             name,
             next,
@@ -146,7 +139,7 @@ fn push_gate(
 {
     if let Statement::Gate { pins, name, cover } = what {
         let pins = pins_named(alloc, signals, pins)?;
-        let name = copy_of(alloc, name)?;
+        let name = name.try_clone(alloc)?;
         let cover = cover.try_clone(alloc)?;
         gates.push(GatePart { name, pins, cover })?;
     }
@@ -203,7 +196,7 @@ fn clock_of(alloc: Global, body: &[Stated], name: Option<&Name>) -> Result<Optio
     match name {
         None => Ok(None),
         Some(name) => Ok(Some(Clock {
-            name: copy_of(alloc, name)?,
+            name: name.try_clone(alloc)?,
             edge: clock_edge(body),
             declared: is_declared(body, name.bytes()),
             place: clock_place(body, name.bytes()),
@@ -228,7 +221,7 @@ pub fn parts_of(
 {
     let body = unit.body.as_slice();
     Ok(Parts {
-        model: copy_of(alloc, &unit.name)?,
+        model: unit.name.try_clone(alloc)?,
         clock: clock_of(alloc, body, clock)?,
         inputs: inputs_of(alloc, body, clock)?,
         latches: latches_of(alloc, body, signals)?,

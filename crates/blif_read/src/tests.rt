@@ -1,6 +1,6 @@
 // Texts with their circuits, and broken texts with their first faults.
 
-use crate::fault::{BlifFault, BlifKind};
+use crate::fault::{BlifFault, BlifKind, at};
 use crate::{Limits, MAPPED, SOURCE, read};
 use std::alloc::{AllocError, Global};
 use std::test::Fail;
@@ -52,7 +52,7 @@ fn toggle(rt: HostRuntime) -> Result<(), Fail> {
 }
 
 #[test]
-fn toggle_cut_off(rt: HostRuntime) -> Result<(), Fail> {
+fn refused_texts(rt: HostRuntime) -> Result<(), Fail> {
     for (text, line, kind) in [
         (".mod", 1, BlifKind::UnknownWord),
         (".model", 1, BlifKind::BadCount),
@@ -86,20 +86,6 @@ fn toggle_cut_off(rt: HostRuntime) -> Result<(), Fail> {
             5,
             BlifKind::RepeatedDriver,
         ),
-    ] {
-        assert_eq!(rt;
-            fault_of(rt.alloc(), text),
-            Some(BlifFault::Text { line, kind }),
-            "{text:?}"
-        );
-    }
-    assert_eq!(rt; fault_of(rt.alloc(), ".model toggle\n.inputs en\n"), None);
-    Ok(())
-}
-
-#[test]
-fn refused_texts(rt: HostRuntime) -> Result<(), Fail> {
-    for (text, line, kind) in [
         (
             ".model l\n.inputs a\n.outputs x\n.names y a x\n11 1\n.names x a y\n11 1\n.end",
             0,
@@ -142,13 +128,6 @@ fn refused_texts(rt: HostRuntime) -> Result<(), Fail> {
             "{text:?}"
         );
     }
-    assert_eq!(rt;
-        fault_of(
-            rt.alloc(),
-            ".model u\n.inputs a\n.outputs q\n.latch a q 2\n.end"
-        ),
-        None
-    );
     Ok(())
 }
 
@@ -260,9 +239,11 @@ fn first_faults(rt: HostRuntime) -> Result<(), Fail> {
 }
 
 #[test]
-fn joins_and_comments(rt: HostRuntime) -> Result<(), Fail> {
+fn accepted_texts(rt: HostRuntime) -> Result<(), Fail> {
     for text in [
         "",
+        ".model toggle\n.inputs en\n",
+        ".model u\n.inputs a\n.outputs q\n.latch a q 2\n.end",
         "\\",
         "# only a comment \\",
         ".inputs a \\\n b\r\n.outputs \\# more\n\\\n a\n.end",
@@ -274,76 +255,95 @@ fn joins_and_comments(rt: HostRuntime) -> Result<(), Fail> {
     Ok(())
 }
 
-/// `first`, then so many bytes `byte`, then `last`.
-fn long_text(
+/// `first`, then `part` so many times, then `last`.
+fn repeated(
     alloc: Global,
     first: &str,
-    byte: u8,
+    part: &str,
     count: u32,
     last: &str,
 ) -> Result<Vec<u8>, AllocError> {
     let mut text = Vec::from_slice(alloc, first.as_bytes())?;
     for _ in 0..count {
-        text.push(byte)?;
+        text.extend_from_slice(part.as_bytes())?;
     }
     text.extend_from_slice(last.as_bytes())?;
     Ok(text)
 }
 
 #[test]
-fn limits_of_a_text(rt: HostRuntime) -> Result<(), Fail> {
-    let fits = long_text(rt.alloc(), ".inputs ", b'n', 255, "\n")?;
-    assert_eq!(rt; fault_within(rt.alloc(), &fits, &SOURCE), None);
-    let long = long_text(rt.alloc(), ".inputs a a ", b'n', 256, "\n.outputs \x02")?;
-    assert_eq!(rt;
-        fault_within(rt.alloc(), &long, &SOURCE),
-        Some(BlifFault::Text {
-            line: 1,
-            kind: BlifKind::LongName
-        })
-    );
-    assert_eq!(rt;
-        fault_within(rt.alloc(), &long, &MAPPED),
-        Some(BlifFault::Text {
-            line: 2,
-            kind: BlifKind::BadByte
-        })
-    );
-    let few = Limits {
-        signals: 2,
-        name: 8,
-    };
-    assert_eq!(rt;
-        fault_within(rt.alloc(), b".inputs k a b\n.clock k", &few),
-        None
-    );
-    assert_eq!(rt;
-        fault_within(rt.alloc(), b".inputs a b\n.names c", &few),
-        Some(BlifFault::Text {
-            line: 0,
-            kind: BlifKind::TooManySignals
-        })
-    );
+fn names_and_pins(rt: HostRuntime) -> Result<(), Fail> {
+    for (first, part, count, last, fault) in [
+        (".inputs ", "n", 255, "\n", None),
+        (".inputs ", "n", 256, "\n", Some(at(1, BlifKind::LongName))),
+        (".inputs a\n.names", " a", 255, " y\n", None),
+        (
+            ".inputs a\n.names",
+            " a",
+            256,
+            " y\n2 2",
+            Some(at(2, BlifKind::TooManyPins)),
+        ),
+        (
+            ".inputs a\n.names",
+            " a",
+            257,
+            "\n",
+            Some(at(2, BlifKind::TooManyPins)),
+        ),
+        (
+            ".end\n.names",
+            " a",
+            257,
+            "\n",
+            Some(at(2, BlifKind::Misplaced)),
+        ),
+    ] {
+        let text = repeated(rt.alloc(), first, part, count, last)?;
+        assert_eq!(rt;
+            fault_within(rt.alloc(), &text, &SOURCE),
+            fault,
+            "{first:?} {count} {last:?}"
+        );
+    }
     Ok(())
 }
 
 #[test]
-fn pins_of_a_gate(rt: HostRuntime) -> Result<(), Fail> {
-    let mut text = Vec::from_slice(rt.alloc(), b".inputs a\n.names")?;
-    for _ in 0..255 {
-        text.extend_from_slice(b" a")?;
+fn small_limits(rt: HostRuntime) -> Result<(), Fail> {
+    let small = Limits {
+        signals: 2,
+        name: 8,
+    };
+    for (text, fault) in [
+        (".inputs 12345678", None),
+        (".inputs 123456789", Some(at(1, BlifKind::LongName))),
+        (
+            ".foo\n.inputs a a 123456789\n.outputs \x02",
+            Some(at(2, BlifKind::LongName)),
+        ),
+        (".inputs 123456789 \x02", Some(at(1, BlifKind::BadByte))),
+        (".inputs k a b\n.clock k", None),
+        (".inputs a b c", Some(at(0, BlifKind::TooManySignals))),
+        (
+            ".inputs a b\n.names c\n.outputs c",
+            Some(at(0, BlifKind::TooManySignals)),
+        ),
+        (
+            ".inputs a b\n.names c c",
+            Some(at(0, BlifKind::TooManySignals)),
+        ),
+        (
+            ".inputs a b c k\n.clock k\n.outputs k",
+            Some(at(3, BlifKind::ClockAsData)),
+        ),
+    ] {
+        assert_eq!(rt;
+            fault_within(rt.alloc(), text.as_bytes(), &small),
+            fault,
+            "{text:?}"
+        );
     }
-    let mut wide = text.clone()?;
-    text.extend_from_slice(b" y\n")?;
-    assert_eq!(rt; fault_within(rt.alloc(), &text, &SOURCE), None);
-    wide.extend_from_slice(b" a a\n")?;
-    assert_eq!(rt;
-        fault_within(rt.alloc(), &wide, &SOURCE),
-        Some(BlifFault::Text {
-            line: 2,
-            kind: BlifKind::TooManyPins
-        })
-    );
     Ok(())
 }
 

@@ -7,5 +7,5 @@ returns c = record {
   one_circuit = same_circuit;
   one_fault = same_fault;
   not_both = λ limits text c f h. excluded limits text f c h;
-  not_neither = decided;
+  one_of_both = decided;
 }

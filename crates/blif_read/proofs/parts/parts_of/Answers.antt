@@ -21,7 +21,7 @@ returns c =
     let inputs : c.in_ok-inputs_of.field-0.items ≡ inputs_of (map telling_of body)
     = c.in_ok-inputs_of.ensures ∙ unclocked-over clock (map telling_of body) ∙ ap (λ k. unclocked k (over inputs_told (map telling_of body))) named in
     subst (λ (b : List Stated). IsSpelled (told b) (circuit_of (record {
-      model = c.in_ok-copy_of.field-0;
+      model = c.in_ok-try_clone.field-0;
       clock = c.in_ok-clock_of.field-0;
       inputs = c.in_ok-inputs_of.field-0;
       latches = c.in_ok-latches_of.field-0;
@@ -29,12 +29,12 @@ returns c =
       outputs = c.in_ok-outputs_of.field-0;
     }))) same
     (spelled (told body) (record {
-      model = c.in_ok-copy_of.field-0;
+      model = c.in_ok-try_clone.field-0;
       clock = c.in_ok-clock_of.field-0;
       inputs = c.in_ok-inputs_of.field-0;
       latches = c.in_ok-latches_of.field-0;
       gates = c.in_ok-gates_of.field-0;
       outputs = c.in_ok-outputs_of.field-0;
-    }) c.args.signals.now c.in_ok-copy_of.ensures c.in_ok-clock_of.ensures inputs
+    }) c.args.signals.now c.in_ok-try_clone.ensures c.in_ok-clock_of.ensures inputs
     c.in_ok-latches_of.ensures.names c.in_ok-latches_of.ensures.drives c.in_ok-gates_of.ensures.names c.in_ok-gates_of.ensures.drives c.in_ok-outputs_of.ensures
     (c.requires.names ∙ ap (λ (b : List Stated). names_of (map telling_of b)) (sym same)))
