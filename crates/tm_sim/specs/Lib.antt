@@ -1,0 +1,4 @@
+pub mod Grid
+pub mod Machine
+pub mod Settled
+pub mod Vectors
