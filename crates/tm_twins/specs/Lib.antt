@@ -1,0 +1,4 @@
+pub mod Twins
+pub mod Joined
+pub mod Parts
+pub mod Classes

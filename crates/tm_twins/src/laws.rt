@@ -1,0 +1,28 @@
+// Laws of twins and joined circuits: each function does nothing, and its contract is the law.
+
+ghost use Rattle.std.specs.Prelude.{◌≡◌, ℕ, ◌⊎◌, Bool, List};
+ghost use Rattle.tm_circuit.specs.Plain.{Plain, Drive};
+ghost use Rattle.tm_circuit.specs.Source.{IsSource};
+ghost use Rattle.tm_circuit.specs.declared.sources.Source.TheVariants.{Input, Gate};
+ghost use Rattle.tm_twins.specs.Twins.{IsWord, HasWord, AreEqual, IsTwin};
+ghost use Rattle.tm_twins.specs.Joined.{IsJoined};
+
+/// A signal has at most one initial word, and one exactly where its source is an input or a gate.
+pub fn one_word()
+    ensures one { (drives : List Drive) (s : ℕ) (word word' : List Bool) (e e' : ℕ) → IsWord drives s word e → IsWord drives s word' e' → (word ≡ word') × (e ≡ e') }
+    ensures ends { (drives : List Drive) (s e : ℕ) (word : List Bool) → IsWord drives s word e → IsSource drives s (Input e) ⊎ IsSource drives s (Gate e) }
+    ensures some { (drives : List Drive) (s e : ℕ) → IsSource drives s (Input e) ⊎ IsSource drives s (Gate e) → HasWord drives s }
+{}
+
+/// A signal has at most one twin: where it has a word, the least signal equal to it, and otherwise itself.
+pub fn one_twin()
+    ensures one { (drives : List Drive) (s t u : ℕ) → IsTwin drives s t → IsTwin drives s u → t ≡ u }
+    ensures equal { (drives : List Drive) (s t : ℕ) → HasWord drives s → IsTwin drives s t → AreEqual drives s t }
+    ensures own { (drives : List Drive) (s t : ℕ) → ¬ HasWord drives s → IsTwin drives s t → t ≡ s }
+    ensures settled { (drives : List Drive) (s t : ℕ) → IsTwin drives s t → IsTwin drives t t }
+{}
+
+/// A circuit has at most one joined circuit.
+pub fn one_joined()
+    ensures { (c d e : Plain) → IsJoined c d → IsJoined c e → d ≡ e }
+{}
