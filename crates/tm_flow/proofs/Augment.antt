@@ -1,13 +1,14 @@
--- A flow grows: the steps of a search are undone from its end back to the root, with the walk from there
+-- A flow grows: the steps of a way are undone from its end back to the root, with the walk from there
 -- to an end in hand. A node that may be cut is come to at most once, where the near side in hand counts too.
-use Rattle.std.proofs.Common.{◌≡◌, ℕ, ◌+◌, ◌<◌, ◌≤◌, Bool, true, false, cond, true≢false, inl, inr, List, [], ◌∷◌, ◌++◌, length, refl, sym, ap, subst, ◌∙◌, length-append, arith}
+use Rattle.std.proofs.Common.{◌≡◌, ℕ, ◌+◌, ◌-◌, ◌<◌, ◌≤◌, Bool, true, false, cond, true≢false, inl, inr, List, [], ◌∷◌, ◌++◌, length, refl, sym, ap, subst, ◌∙◌, length-append, arith}
 use Rattle.tm_flow.specs.Lists.{Has, Each, At}
 use Rattle.tm_flow.specs.Nets.{Shape}
 use Rattle.tm_flow.specs.Flows.{Leads, InFlow, BeginsWith, hits, all_hits, edges_to, all_edges_to, IsFlow, TakesBack}
-use Rattle.tm_flow.specs.Searches.{Entry, sides, near, far, IsStep, IsSearch, CanUndo, IsUndone, CanGrow}
+use Rattle.tm_flow.specs.Searches.{sides, near, far, IsStep, IsWay, CanUndo, IsUndone, CanGrow}
 use Rattle.tm_flow.specs.declared.flow.Edge.{Edge}
 use Rattle.tm_flow.specs.declared.search.Side.{Side}
 use Rattle.tm_flow.specs.declared.search.Step.{Step}
+use Rattle.tm_flow.specs.declared.search.Taken.{Taken}
 use Rattle.tm_flow.specs.declared.search.Step.TheVariants.{Read, Cross, Return, Back}
 use Rattle.tm_flow.proofs.ListLemmas.{has_left, has_right, has_either, each_as, each_join, each_left, each_right}
 use Rattle.tm_flow.proofs.PlaceLemmas.{at_same, at_once}
@@ -201,12 +202,12 @@ module _ {T : Type 0} where
       Allowed ws t p Cross q = n.may_cut q.node ≡ true → all_hits eq q.node ws + hits eq q.node t ≡ 0
       Allowed ws t p _ q = Unit {0}
 
-      -- the steps of a search are undone from its end back to the side with the number
-      pub record Unwinds (es : List (Entry T)) (at : ℕ) (ws : List (List (Edge T))) (t : List (Edge T)) : Type 0 where
+      -- the steps of a way are undone from its end back to the side with the number
+      pub record Unwinds (es : List (Taken T)) (at : ℕ) (ws : List (List (Edge T))) (t : List (Edge T)) : Type 0 where
         pub here : Side T
         pub place : At (sides es) at here
         pub holds : Holds ws t here
-        pub allowed : (j : ℕ) (e : Entry T) (p : Side T) → At es j e → At (sides es) e.1.parent p → j ≤ at → 0 < j → Allowed ws t p e.1.step e.0
+        pub allowed : (j : ℕ) (e : Taken T) (p : Side T) → At es j e → At (sides es) (j - 1) p → j ≤ at → 0 < j → Allowed ws t p e.step e.side
 
       allowed_first : (ws : List (List (Edge T))) (p : Side T) (step : Step) (q : Side T) → IsStep n (all_edges_to eq p.node ws) p step q → Allowed ws [] p step q
       unfolding Allowed
@@ -226,8 +227,8 @@ module _ {T : Type 0} where
           let to : edge.to ≡ p.node = on.1 in
           inr (subst (InFlow ws) (λ j. record { from = from j; index = index j; to = to j }) on.0)
 
-      pub unwinds_first : (ws : List (List (Edge T))) (es : List (Entry T)) (end : ℕ) → CanGrow n eq root ws es end → Unwinds es end ws []
-      unwinds_first ws es end g = record {
+      pub unwinds_first : (ws : List (List (Edge T))) (es : List (Taken T)) → CanGrow n eq root ws es → Unwinds es (length es - 1) ws []
+      unwinds_first ws es g = record {
         here = g.ends.0;
         place = g.ends.1;
         holds = record {
@@ -236,104 +237,103 @@ module _ {T : Type 0} where
           room = λ v may. let a = g.flow.room v may in let b = at_far g.ends.0 (cond (eq g.ends.0.node v) 1 0) g.ends.2.0 in omega arith;
         };
         allowed = λ j e p a b le pos.
-            let came = g.search.came j e a pos in
-            let is : came.0 ≡ p = at_same (sides es) e.1.parent came.0 p came.2 b in
-            allowed_first ws p e.1.step e.0 (subst (λ s. IsStep n (all_edges_to eq s.node ws) s e.1.step e.0) is came.3);
+            let came = g.way.came j e a pos in
+            let is : came.0 ≡ p = at_same (sides es) (j - 1) came.0 p came.1 b in
+            allowed_first ws p e.step e.side (subst (λ s. IsStep n (all_edges_to eq s.node ws) s e.step e.side) is came.2);
       }
 
       -- one step is undone, and an earlier one is still allowed
-      module _ (into : T → List (Edge T)) (es : List (Entry T)) (search : IsSearch n into root es) where
+      module _ (into : T → List (Edge T)) (es : List (Taken T)) (way : IsWay n into root es) where
         far_once : (i j : ℕ) (p q : Side T) → At (sides es) i p → At (sides es) j q → p ≡ q → i ≡ j
-        far_once i j p q a b e = at_once (sides es) i j q search.apart (subst (At (sides es) i) e a) b
+        far_once i j p q a b e = at_once (sides es) i j q way.apart (subst (At (sides es) i) e a) b
 
-        allowed_back : (at : ℕ) (e : Entry T) (p : Side T) (i : ℕ) (ws : List (List (Edge T))) (t : List (Edge T)) (ws' : List (List (Edge T))) (t' : List (Edge T))
-            → At es at e → e.0.is_far ≡ true → TakesBack (record { from = e.0.node; index = i; to = p.node }) ws t ws' t'
-            → (j : ℕ) (d : Entry T) (s : Side T) → At es j d → j < at → (step : Step) → IsStep n (into s.node) s step d.0 → Allowed ws t s step d.0 → Allowed ws' t' s step d.0
+        allowed_back : (at : ℕ) (e : Taken T) (p : Side T) (i : ℕ) (ws : List (List (Edge T))) (t : List (Edge T)) (ws' : List (List (Edge T))) (t' : List (Edge T))
+            → At es at e → e.side.is_far ≡ true → TakesBack (record { from = e.side.node; index = i; to = p.node }) ws t ws' t'
+            → (j : ℕ) (d : Taken T) (s : Side T) → At es j d → j < at → (step : Step) → IsStep n (into s.node) s step d.side → Allowed ws t s step d.side → Allowed ws' t' s step d.side
         unfolding Allowed
         allowed_back at e p i ws t ws' t' here f back j d s a lt (Read k) is old = tt
         allowed_back at e p i ws t ws' t' here f back j d s a lt Return is old = tt
         allowed_back at e p i ws t ws' t' here f back j d s a lt Cross is old =
-            λ may. let o = old may in let m = moved (record { from = e.0.node; index = i; to = p.node }) ws t ws' t' back d.0.node in omega arith
+            λ may. let o = old may in let m = moved (record { from = e.side.node; index = i; to = p.node }) ws t ws' t' back d.side.node in omega arith
         allowed_back at e p i ws t ws' t' here f back j d s a lt (Back k) is old =
-            stays (record { from = e.0.node; index = i; to = p.node }) ws t ws' t' back (record { from = d.0.node; index = k; to = s.node })
+            stays (record { from = e.side.node; index = i; to = p.node }) ws t ws' t' back (record { from = d.side.node; index = k; to = s.node })
             (λ same_edge.
-            let node : e.0.node ≡ d.0.node = ap (λ x. x.from) same_edge in
-            let is_far : d.0 ≡ far d.0.node = far_is d.0 (ap (λ x. x.is_far) is.1.3) in
-            let same_side : e.0 ≡ d.0 = far_is e.0 f ∙ ap far node ∙ sym is_far in
-            let once : at ≡ j = far_once at j e.0 d.0 (at_side es at e here) (at_side es j d a) same_side in
+            let node : e.side.node ≡ d.side.node = ap (λ x. x.from) same_edge in
+            let is_far : d.side ≡ far d.side.node = far_is d.side (ap (λ x. x.is_far) is.1.3) in
+            let same_side : e.side ≡ d.side = far_is e.side f ∙ ap far node ∙ sym is_far in
+            let once : at ≡ j = far_once at j e.side d.side (at_side es at e here) (at_side es j d a) same_side in
             let none : ⊥ = omega arith in absurd none)
             old
 
-        allowed_read : (at : ℕ) (e : Entry T) (p : Side T) (i : ℕ) (ws : List (List (Edge T))) (t : List (Edge T))
-            → At es at e → e.0 ≡ near e.0.node
-            → (j : ℕ) (d : Entry T) (s : Side T) → At es j d → j < at → At (sides es) d.1.parent s → d.1.parent < j
-            → (step : Step) → IsStep n (into s.node) s step d.0 → Allowed ws t s step d.0
-            → Allowed ws (record { from = p.node; index = i; to = e.0.node } ∷ t) s step d.0
+        allowed_read : (at : ℕ) (e : Taken T) (p : Side T) (i : ℕ) (ws : List (List (Edge T))) (t : List (Edge T))
+            → At es at e → e.side ≡ near e.side.node
+            → (j : ℕ) (d : Taken T) (s : Side T) → At es j d → j < at → At (sides es) (j - 1) s → 0 < j
+            → (step : Step) → IsStep n (into s.node) s step d.side → Allowed ws t s step d.side
+            → Allowed ws (record { from = p.node; index = i; to = e.side.node } ∷ t) s step d.side
         unfolding Allowed
         allowed_read at e p i ws t here f j d s a lt b earlier (Read k) is old = tt
         allowed_read at e p i ws t here f j d s a lt b earlier Return is old = tt
         allowed_read at e p i ws t here f j d s a lt b earlier (Back k) is old = elim old [ inl x ↦ inl (inr x) | inr y ↦ inr y ]
-        allowed_read at e p i ws t here f j d s a lt b earlier Cross is old = λ may. by (old may) (eq e.0.node d.0.node) refl
+        allowed_read at e p i ws t here f j d s a lt b earlier Cross is old = λ may. by (old may) (eq e.side.node d.side.node) refl
           where
-            by : all_hits eq d.0.node ws + hits eq d.0.node t ≡ 0 → (c : Bool) → eq e.0.node d.0.node ≡ c
-                → all_hits eq d.0.node ws + (cond (eq e.0.node d.0.node) 1 0 + hits eq d.0.node t) ≡ 0
+            by : all_hits eq d.side.node ws + hits eq d.side.node t ≡ 0 → (c : Bool) → eq e.side.node d.side.node ≡ c
+                → all_hits eq d.side.node ws + (cond (eq e.side.node d.side.node) 1 0 + hits eq d.side.node t) ≡ 0
             by o true c =
-                let node : e.0.node ≡ d.0.node = same e.0.node d.0.node c in
+                let node : e.side.node ≡ d.side.node = same e.side.node d.side.node c in
                 let parent : s ≡ near s.node = near_is s is.0 in
-                let same_side : e.0 ≡ s = f ∙ ap near (node ∙ ap (λ x. x.node) is.1) ∙ sym parent in
-                let once : at ≡ d.1.parent = far_once at d.1.parent e.0 s (at_side es at e here) b same_side in
+                let same_side : e.side ≡ s = f ∙ ap near (node ∙ ap (λ x. x.node) is.1) ∙ sym parent in
+                let once : at ≡ j - 1 = far_once at (j - 1) e.side s (at_side es at e here) b same_side in
                 let none : ⊥ = omega arith in absurd none
-            by o false c = let z = zero_if (eq e.0.node d.0.node) c in omega arith
+            by o false c = let z = zero_if (eq e.side.node d.side.node) c in omega arith
 
         -- one step undone, by its kind
-        undone : (at : ℕ) (e : Entry T) (p : Side T) (ws : List (List (Edge T))) (t : List (Edge T)) (ws' : List (List (Edge T))) (t' : List (Edge T))
-            → At es at e → (step : Step) → IsStep n (into p.node) p step e.0 → Allowed ws t p step e.0 → IsUndone p step e.0 ws t ws' t' → Holds ws t e.0
+        undone : (at : ℕ) (e : Taken T) (p : Side T) (ws : List (List (Edge T))) (t : List (Edge T)) (ws' : List (List (Edge T))) (t' : List (Edge T))
+            → At es at e → (step : Step) → IsStep n (into p.node) p step e.side → Allowed ws t p step e.side → IsUndone p step e.side ws t ws' t' → Holds ws t e.side
             → Holds ws' t' p
-            × ((j : ℕ) (d : Entry T) (s : Side T) → At es j d → j < at → At (sides es) d.1.parent s → d.1.parent < j → (k : Step) → IsStep n (into s.node) s k d.0 → Allowed ws t s k d.0 → Allowed ws' t' s k d.0)
+            × ((j : ℕ) (d : Taken T) (s : Side T) → At es j d → j < at → At (sides es) (j - 1) s → 0 < j → (k : Step) → IsStep n (into s.node) s k d.side → Allowed ws t s k d.side → Allowed ws' t' s k d.side)
         unfolding Allowed
         undone at e p ws t ws' t' here (Read i) is may u h = (
-          subst (λ l. Holds l t' p) (sym u.0) (subst (λ l. Holds ws l p) (sym u.1) (hold_read ws t p e.0 i is.0 is.1.0 is.1.1 h)),
-          (λ j d s a lt b earlier k st old. subst (λ l. Allowed l t' s k d.0) (sym u.0) (subst (λ l. Allowed ws l s k d.0) (sym u.1)
+          subst (λ l. Holds l t' p) (sym u.0) (subst (λ l. Holds ws l p) (sym u.1) (hold_read ws t p e.side i is.0 is.1.0 is.1.1 h)),
+          (λ j d s a lt b earlier k st old. subst (λ l. Allowed l t' s k d.side) (sym u.0) (subst (λ l. Allowed ws l s k d.side) (sym u.1)
               (allowed_read at e p i ws t here (is.1.1 ∙ ap near (sym (ap (λ x. x.node) is.1.1))) j d s a lt b earlier k st old))),
         )
         undone at e p ws t ws' t' here Cross is may u h = (
-          subst (λ l. Holds l t' p) (sym u.0) (subst (λ l. Holds ws l p) (sym u.1) (hold_cross ws t p e.0 is.0 is.1 may h)),
-          (λ j d s a lt b earlier k st old. subst (λ l. Allowed l t' s k d.0) (sym u.0) (subst (λ l. Allowed ws l s k d.0) (sym u.1) old)),
+          subst (λ l. Holds l t' p) (sym u.0) (subst (λ l. Holds ws l p) (sym u.1) (hold_cross ws t p e.side is.0 is.1 may h)),
+          (λ j d s a lt b earlier k st old. subst (λ l. Allowed l t' s k d.side) (sym u.0) (subst (λ l. Allowed ws l s k d.side) (sym u.1) old)),
         )
         undone at e p ws t ws' t' here Return is may u h = (
-          subst (λ l. Holds l t' p) (sym u.0) (subst (λ l. Holds ws l p) (sym u.1) (hold_return ws t p e.0 is.0 is.1 h)),
-          (λ j d s a lt b earlier k st old. subst (λ l. Allowed l t' s k d.0) (sym u.0) (subst (λ l. Allowed ws l s k d.0) (sym u.1) old)),
+          subst (λ l. Holds l t' p) (sym u.0) (subst (λ l. Holds ws l p) (sym u.1) (hold_return ws t p e.side is.0 is.1 h)),
+          (λ j d s a lt b earlier k st old. subst (λ l. Allowed l t' s k d.side) (sym u.0) (subst (λ l. Allowed ws l s k d.side) (sym u.1) old)),
         )
         undone at e p ws t ws' t' here (Back i) is may u h =
-            let f : e.0.is_far ≡ true = ap (λ x. x.is_far) is.1.3 in (
-              hold_back ws t ws' t' p e.0 i is.0 f u h,
+            let f : e.side.is_far ≡ true = ap (λ x. x.is_far) is.1.3 in (
+              hold_back ws t ws' t' p e.side i is.0 f u h,
               (λ j d s a lt b earlier k st old. allowed_back at e p i ws t ws' t' here f u j d s a lt k st old),
             )
 
-        pub unwinds_on : (at : ℕ) (e : Entry T) (p : Side T) (ws : List (List (Edge T))) (t : List (Edge T)) (ws' : List (List (Edge T))) (t' : List (Edge T))
-            → At es at e → At (sides es) e.1.parent p → 0 < at → IsUndone p e.1.step e.0 ws t ws' t' → Unwinds es at ws t → Unwinds es e.1.parent ws' t'
+        pub unwinds_on : (at : ℕ) (e : Taken T) (p : Side T) (ws : List (List (Edge T))) (t : List (Edge T)) (ws' : List (List (Edge T))) (t' : List (Edge T))
+            → At es at e → At (sides es) (at - 1) p → 0 < at → IsUndone p e.step e.side ws t ws' t' → Unwinds es at ws t → Unwinds es (at - 1) ws' t'
         unwinds_on at e p ws t ws' t' here before pos u w =
-            let came = search.came at e here pos in
-            let is : came.0 ≡ p = at_same (sides es) e.1.parent came.0 p came.2 before in
-            let step : IsStep n (into p.node) p e.1.step e.0 = subst (λ s. IsStep n (into s.node) s e.1.step e.0) is came.3 in
-            let this : w.here ≡ e.0 = at_same (sides es) at w.here e.0 w.place (at_side es at e here) in
+            let came = way.came at e here pos in
+            let is : came.0 ≡ p = at_same (sides es) (at - 1) came.0 p came.1 before in
+            let step : IsStep n (into p.node) p e.step e.side = subst (λ s. IsStep n (into s.node) s e.step e.side) is came.2 in
+            let this : w.here ≡ e.side = at_same (sides es) at w.here e.side w.place (at_side es at e here) in
             let le : at ≤ at = omega arith in
-            let r = undone at e p ws t ws' t' here e.1.step step (w.allowed at e p here before le pos) u (subst (Holds ws t) this w.holds) in
-            let earlier : e.1.parent < at = came.1 in
+            let r = undone at e p ws t ws' t' here e.step step (w.allowed at e p here before le pos) u (subst (Holds ws t) this w.holds) in
             record {
               here = p;
               place = before;
               holds = r.0;
               allowed = λ j d s a b lej posj.
-                  let cj = search.came j d a posj in
-                  let isj : cj.0 ≡ s = at_same (sides es) d.1.parent cj.0 s cj.2 b in
-                  r.1 j d s a (omega arith) b cj.1 d.1.step (subst (λ x. IsStep n (into x.node) x d.1.step d.0) isj cj.3) (w.allowed j d s a b (omega arith) posj);
+                  let cj = way.came j d a posj in
+                  let isj : cj.0 ≡ s = at_same (sides es) (j - 1) cj.0 s cj.1 b in
+                  r.1 j d s a (omega arith) b posj d.step (subst (λ x. IsStep n (into x.node) x d.step d.side) isj cj.2) (w.allowed j d s a b (omega arith) posj);
             }
 
         -- back at the root, the walk in hand is one more
         pub unwinds_last : (ws : List (List (Edge T))) (t : List (Edge T)) → Unwinds es 0 ws t → IsFlow n eq root (ws ++ t ∷ [])
         unwinds_last ws t w =
-            let this : w.here ≡ far root = at_same (sides es) 0 w.here (far root) w.place search.first in
+            let this : w.here ≡ far root = at_same (sides es) 0 w.here (far root) w.place way.first in
             record {
               walks = each_join (Leads n root) ws (t ∷ []) w.holds.walks (subst (λ s. Leads n s.node t) this w.holds.rest, tt);
               room = λ v may.
@@ -343,13 +343,13 @@ module _ {T : Type 0} where
             }
 
         -- the next step can be undone
-        pub can_undo : ((x : T) (i : ℕ) → i < n.reads x → n.rank (n.read x i) < n.rank x) → (at : ℕ) (e : Entry T) (p : Side T) (ws : List (List (Edge T))) (t : List (Edge T))
-            → At es at e → At (sides es) e.1.parent p → 0 < at → Unwinds es at ws t → CanUndo p e.1.step e.0 ws t
+        pub can_undo : ((x : T) (i : ℕ) → i < n.reads x → n.rank (n.read x i) < n.rank x) → (at : ℕ) (e : Taken T) (p : Side T) (ws : List (List (Edge T))) (t : List (Edge T))
+            → At es at e → At (sides es) (at - 1) p → 0 < at → Unwinds es at ws t → CanUndo p e.step e.side ws t
         unfolding Allowed
         can_undo falls at e p ws t here before pos w =
-            let this : w.here ≡ e.0 = at_same (sides es) at w.here e.0 w.place (at_side es at e here) in
+            let this : w.here ≡ e.side = at_same (sides es) at w.here e.side w.place (at_side es at e here) in
             let le : at ≤ at = omega arith in
-            on e.1.step (w.allowed at e p here before le pos) (subst (λ s. Leads n s.node t) this w.holds.rest)
+            on e.step (w.allowed at e p here before le pos) (subst (λ s. Leads n s.node t) this w.holds.rest)
           where
             begins : (u : List (Edge T)) (x : T) (d : Edge T) → Leads n x u → Has u d → d.from ≡ x → BeginsWith d u
             begins [] x d l h f = absurd h
@@ -361,11 +361,11 @@ module _ {T : Type 0} where
                 let from : n.rank d.from ≡ n.rank x = ap n.rank f in
                 let none : ⊥ = omega arith in absurd none
 
-            on : (step : Step) → Allowed ws t p step e.0 → Leads n e.0.node t → CanUndo p step e.0 ws t
+            on : (step : Step) → Allowed ws t p step e.side → Leads n e.side.node t → CanUndo p step e.side ws t
             on (Read i) a l = tt
             on Cross a l = tt
             on Return a l = tt
-            on (Back i) a l = elim a [ inl x ↦ inl (begins t e.0.node (record { from = e.0.node; index = i; to = p.node }) l x refl) | inr y ↦ inr y ]
+            on (Back i) a l = elim a [ inl x ↦ inl (begins t e.side.node (record { from = e.side.node; index = i; to = p.node }) l x refl) | inr y ↦ inr y ]
 
         pub walks_lead : (at : ℕ) (ws : List (List (Edge T))) (t : List (Edge T)) → Unwinds es at ws t → Each (λ u. (x : T) × Leads n x u) ws
         walks_lead at ws t w = each_as (Leads n root) (λ u. (x : T) × Leads n x u) (λ u l. (root, l)) ws w.holds.walks

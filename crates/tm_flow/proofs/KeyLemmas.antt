@@ -1,58 +1,46 @@
--- What look-ups in a map of sides say of the sides in it.
-use Rattle.std.proofs.Common.{◌≡◌, Bool, true, false, cond, ◌&&◌, true≢false, is_some, Some, None, Option, inl, inr, List, [], ◌∷◌, refl, sym, ap, ◌∙◌}
-use Rattle.std.specs.Map.{lookup}
-use mathlib.Core.Bool.{beq}
-use Rattle.tm_flow.specs.Lists.{Has}
-use Rattle.tm_flow.specs.Searches.{sides, side_eq}
-use Rattle.tm_flow.specs.declared.search.Side.{Side}
-use Rattle.tm_flow.specs.declared.search.Came.{Came}
+-- What the look-up of a node says of the mark of its far side.
+use Rattle.std.proofs.Common.{◌≡◌, ℕ, ◌<◌, Bool, true, false, cond, true≢false, Some, None, inl, inr, List, length, nat_lt, get_or, refl, sym, ap, subst, ◌∙◌, arith}
+use Rattle.std.specs.List.{position_or_len}
+use Rattle.std.proofs.lemmas.Bool.{cases_lt}
+use Rattle.std.proofs.lemmas.List.Sums.{passes_at_first, fails_before_first}
+use Rattle.tm_flow.specs.Lists.{At}
+use Rattle.tm_flow.specs.Searches.{far, no_marks, far_under, is_far_met, IsMarked, IsNumbered}
+use Rattle.tm_flow.specs.declared.search.Marks.{Marks}
+use Rattle.tm_flow.proofs.PlaceLemmas.{at_get_or, get_or_at, at_once, at_within}
 
-module _ {T : Type 0} (eq : T → T → Bool) (same : (x y : T) → eq x y ≡ true → x ≡ y) (self : (x : T) → eq x x ≡ true) where
-  both_true : (a b : Bool) → (a && b) ≡ true → (a ≡ true) × (b ≡ true)
-  both_true true true h = (refl, refl)
-  both_true true false h = absurd (true≢false (sym h))
-  both_true false b h = absurd (true≢false (sym h))
+module _ {T : Type 0} (eq : T → T → Bool) (same : (x y : T) → eq x y ≡ true → x ≡ y) (self : (x : T) → eq x x ≡ true)
+    (nodes : List T) (marks : List Marks) (numbered : IsNumbered nodes marks) where
+  -- the first place where the test of v passes is that of v
+  place_is : (v : T) (lt : position_or_len (eq v) nodes < length nodes) → At nodes (position_or_len (eq v) nodes) v
+  place_is v lt =
+      let i : ℕ = position_or_len (eq v) nodes in
+      let e : v ≡ get_or nodes i v = same v (get_or nodes i v) (passes_at_first (eq v) nodes v lt) in
+      subst (At nodes i) (sym e) (at_get_or nodes i v lt)
 
-  same_bool : (a b : Bool) → beq a b ≡ true → a ≡ b
-  same_bool true true h = refl
-  same_bool true false h = absurd (true≢false (sym h))
-  same_bool false true h = absurd (true≢false (sym h))
-  same_bool false false h = refl
+  -- a node that is there has such a place
+  place_within : (v : T) (i : ℕ) → At nodes i v → position_or_len (eq v) nodes < length nodes
+  place_within v i h =
+      elim (cases_lt i (position_or_len (eq v) nodes)) [
+        | inl before ↦ absurd (true≢false (sym (self v) ∙ ap (eq v) (sym (get_or_at nodes i v v h)) ∙ fails_before_first (eq v) nodes i v before))
+        | inr after ↦ omega (arith, at_within nodes i v h)
+      ]
 
-  self_bool : (a : Bool) → beq a a ≡ true
-  self_bool true = refl
-  self_bool false = refl
-
-  pub side_same : (x y : Side T) → side_eq eq x y ≡ true → x ≡ y
-  side_same x y h =
-      let both = both_true (eq x.node y.node) (beq x.is_far y.is_far) h in
-      let e : x.node ≡ y.node = same x.node y.node both.0 in
-      let f : x.is_far ≡ y.is_far = same_bool x.is_far y.is_far both.1 in
-      λ j. record { node = e j; is_far = f j }
-
-  pub side_self : (x : Side T) → side_eq eq x x ≡ true
-  side_self x = ap (λ b. b && beq x.is_far x.is_far) (self x.node) ∙ self_bool x.is_far
-
-  -- a side that is found has been met
-  pub found_has : (es : List (Side T × Came)) (s : Side T) → is_some (lookup (side_eq eq s) es) ≡ true → Has (sides es) s
-  found_has [] s h = absurd (true≢false (sym h))
-  found_has (e ∷ es) s h = by (side_eq eq s e.0) refl (found_has es s)
+  pub met_if : (v : T) → is_far_met eq nodes marks v ≡ true → IsMarked nodes marks (far v)
+  met_if v h = by (nat_lt (position_or_len (eq v) nodes) (length nodes)) refl
     where
-      by : (b : Bool) → side_eq eq s e.0 ≡ b → (is_some (lookup (side_eq eq s) es) ≡ true → Has (sides es) s) → Has (sides (e ∷ es)) s
-      by true f rest = inl (sym (side_same s e.0 f))
-      by false f rest = inr (rest (sym (ap (λ b. is_some (cond b (Some e.1) (lookup (side_eq eq s) es))) f) ∙ h))
+      by : (b : Bool) → nat_lt (position_or_len (eq v) nodes) (length nodes) ≡ b → IsMarked nodes marks (far v)
+      by true e =
+          let i : ℕ = position_or_len (eq v) nodes in
+          let lt : i < length nodes = grind arith in
+          let lt2 : i < length marks = omega (arith, numbered.even) in
+          (i, get_or marks i no_marks, place_is v lt, at_get_or marks i no_marks lt2, sym (ap (λ b. far_under marks (cond b (Some i) None)) e) ∙ h)
+      by false e = absurd (true≢false (sym h ∙ ap (λ b. far_under marks (cond b (Some (position_or_len (eq v) nodes)) None)) e))
 
-  -- a side that isn't found has not been met
-  pub absent_has : (es : List (Side T × Came)) (s : Side T) → is_some (lookup (side_eq eq s) es) ≡ false → Has (sides es) s → ⊥
-  absent_has [] s h m = m
-  absent_has (e ∷ es) s h (inl f) = true≢false (sym (ap (λ b. is_some (cond b (Some e.1) (lookup (side_eq eq s) es))) (ap (side_eq eq s) f ∙ side_self s)) ∙ h)
-  absent_has (e ∷ es) s h (inr m) = by (side_eq eq s e.0) refl (λ g. absent_has es s g m)
-    where
-      by : (b : Bool) → side_eq eq s e.0 ≡ b → (is_some (lookup (side_eq eq s) es) ≡ false → ⊥) → ⊥
-      by true f rest = true≢false (sym (ap (λ b. is_some (cond b (Some e.1) (lookup (side_eq eq s) es))) f) ∙ h)
-      by false f rest = rest (sym (ap (λ b. is_some (cond b (Some e.1) (lookup (side_eq eq s) es))) f) ∙ h)
-
--- a look-up that finds nothing
-pub none_absent : {X : Type 0} (o : Option X) → is_some o ≡ false → o ≡ None
-none_absent None h = refl
-none_absent (Some x) h = absurd (true≢false h)
+  pub unmet_if : (v : T) → is_far_met eq nodes marks v ≡ false → IsMarked nodes marks (far v) → ⊥
+  unmet_if v h k =
+      let i : ℕ = position_or_len (eq v) nodes in
+      let lt : i < length nodes = place_within v k.0 k.2 in
+      let e : nat_lt i (length nodes) ≡ true = grind arith in
+      let once : k.0 ≡ i = at_once nodes k.0 i v numbered.apart k.2 (place_is v lt) in
+      let is : get_or marks i no_marks ≡ k.1 = get_or_at marks i no_marks k.1 (subst (λ j. At marks j k.1) once k.3) in
+      true≢false (sym k.4 ∙ ap (λ m. m.far) (sym is) ∙ sym (ap (λ b. far_under marks (cond b (Some i) None)) e) ∙ h)

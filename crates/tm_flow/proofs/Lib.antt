@@ -1,11 +1,11 @@
 pub mod ListLemmas
 pub mod PlaceLemmas
 pub mod Menger
+pub mod MarkLemmas
 pub mod KeyLemmas
-pub mod SearchLemmas
 pub mod Finite
+pub mod SearchLemmas
 pub mod FlowLemmas
-pub mod UndoLemmas
 pub mod Augment
 pub mod WalkLemmas
 pub mod Cover

@@ -1,7 +1,7 @@
 -- The item with an index.
 use Rattle.std.proofs.Common.{◌≡◌, ℕ, ◌+◌, ◌<◌, zero, suc, ◌⊎◌, inl, inr, List, [], ◌∷◌, ◌++◌, length, Some, slice_get, get_or, take, drop, map, insert, remove, add-one, All, refl, sym, ap, subst, ◌∙◌, arith}
 use Rattle.std.proofs.lemmas.List.{take_more, map-append}
-use Rattle.tm_flow.specs.Lists.{Has, Each, AreApart, At, numbers_from}
+use Rattle.tm_flow.specs.Lists.{Has, Each, AreApart, At}
 
 module _ {X : Type 0} where
   pub at_from_get : (xs : List X) (i : ℕ) (x : X) → slice_get xs i ≡ Some x → At xs i x
@@ -50,19 +50,6 @@ module _ {X : Type 0} where
   at_some (y ∷ ys) zero h = (y, refl)
   at_some (y ∷ ys) (suc i) h = let lt : i < length ys = omega arith in at_some ys i lt
 
-  pub numbers_has : (start : ℕ) (xs : List X) (i : ℕ) → i < length xs → Has (numbers_from start xs) (start + i)
-  numbers_has start [] i h = let c : ⊥ = omega arith in absurd c
-  numbers_has start (x ∷ xs) zero h = inl (omega arith)
-  numbers_has start (x ∷ xs) (suc i) h =
-      let lt : i < length xs = omega arith in
-      let e : start + 1 + i ≡ start + suc i = omega arith in
-      inr (subst (Has (numbers_from (start + 1) xs)) e (numbers_has (start + 1) xs i lt))
-
-  pub numbers_within : (start : ℕ) (xs : List X) (j : ℕ) → Has (numbers_from start xs) j → j < start + length xs
-  numbers_within start [] j h = absurd h
-  numbers_within start (x ∷ xs) j (inl e) = omega arith
-  numbers_within start (x ∷ xs) j (inr h) = omega (arith, numbers_within (start + 1) xs j h)
-
   pub has_at : (xs : List X) (x : X) → Has xs x → (i : ℕ) × At xs i x
   has_at [] x h = absurd h
   has_at (y ∷ ys) x (inl e) = (0, e)
@@ -77,6 +64,9 @@ module _ {X : Type 0} where
   at_get_or [] i d h = let c : ⊥ = omega arith in absurd c
   at_get_or (x ∷ xs) zero d h = refl
   at_get_or (x ∷ xs) (suc i) d h = let lt : i < length xs = omega arith in at_get_or xs i d lt
+
+  pub at_named : (xs : List X) (i : ℕ) (x : X) → i < length xs → x ≡ get_or xs i x → At xs i x
+  at_named xs i x lt is = subst (At xs i) (sym is) (at_get_or xs i x lt)
 
   pub get_or_at : (xs : List X) (i : ℕ) (d x : X) → At xs i x → get_or xs i d ≡ x
   get_or_at [] i d x h = absurd h

@@ -1,179 +1,223 @@
 -- How a search grows.
-use Rattle.std.proofs.Common.{◌≡◌, ℕ, ◌+◌, ◌-◌, ◌*◌, ◌<◌, ◌≤◌, true, false, ◌⊎◌, inl, inr, List, [], ◌∷◌, ◌++◌, length, refl, sym, ap, subst, ◌∙◌, append_assoc, add-zero, zero, suc, length-append, true≢false, take, get_or, Result, Ok, Err, OnOk, IfOk, arith}
-use Rattle.std.proofs.lemmas.List.{take_more}
+use Rattle.std.proofs.Common.{◌≡◌, ℕ, ◌+◌, ◌-◌, ◌*◌, ◌<◌, ◌≤◌, true, false, ◌⊎◌, inl, inr, List, [], ◌∷◌, ◌++◌, length, refl, sym, ap, subst, ◌∙◌, append_assoc, zero, suc, length-append, length-take, take-take, true≢false, take, drop, get_or, Result, Ok, Err, OnOk, IfOk, arith}
+use Rattle.std.proofs.lemmas.List.{take_more, append-nil, take_all, take-append-le, take-append-drop}
 use Rattle.std.proofs.lemmas.Bool.{cases_lt}
-use Rattle.std.proofs.lemmas.List.{append-nil}
-use Rattle.tm_flow.specs.Lists.{Has, Each, AreApart, At, numbers_from}
-use Rattle.tm_flow.specs.Searches.{Entry, sides, near, far, IsRead, IsBack, IsStep, IsStepFrom, Follows, IsGoal, IsSearch, IsSearchedOut, Meets}
-use Rattle.tm_flow.specs.Nets.{Shape}
+use Rattle.tm_flow.specs.Lists.{Has, Each, AreApart, At}
+use Rattle.tm_flow.specs.Nets.{Shape, Reaches}
+use Rattle.tm_flow.specs.Searches.{sides, sides_waiting, near, far, count_of, IsRead, IsBack, IsStep, Follows, IsGoal, IsWay, IsNumbered, IsMarked, Names, IsNew, Meets, IsExhausted}
 use Rattle.tm_flow.specs.declared.flow.Edge.{Edge}
+use Rattle.tm_flow.specs.declared.search.Marks.{Marks}
+use Rattle.tm_flow.specs.declared.search.Side.{Side}
 use Rattle.tm_flow.specs.declared.search.Step.{Step}
 use Rattle.tm_flow.specs.declared.search.Step.TheVariants.{Read, Cross, Return, Back}
-use Rattle.tm_flow.specs.declared.search.Side.{Side}
-use Rattle.tm_flow.specs.declared.search.Came.{Came}
-use Rattle.tm_flow.proofs.PlaceLemmas.{at_left, at_either, at_within, at_some, at_once, at_same, each_at, has_at, numbers_has, numbers_within}
+use Rattle.tm_flow.specs.declared.search.Taken.{Taken}
+use Rattle.tm_flow.specs.declared.search.Waiting.{Waiting}
 use Rattle.tm_flow.proofs.ListLemmas.{has_left, has_right, has_either, each_left, each_right, each_from, has_get, each_has, each_as, each_join, apart_push}
+use Rattle.tm_flow.proofs.MarkLemmas.{none_marked}
+use Rattle.tm_flow.proofs.PlaceLemmas.{at_left, at_either, at_has, at_after}
+use Rattle.tm_flow.proofs.Finite.{reaches_here, reaches_step}
 
 module _ {T : Type 0} where
-  pub sides_join : (xs ys : List (Entry T)) → sides (xs ++ ys) ≡ sides xs ++ sides ys
+  pub sides_join : (xs ys : List (Taken T)) → sides (xs ++ ys) ≡ sides xs ++ sides ys
   sides_join [] ys = refl
-  sides_join (x ∷ xs) ys = ap (λ l. x.0 ∷ l) (sides_join xs ys)
+  sides_join (x ∷ xs) ys = ap (λ l. x.side ∷ l) (sides_join xs ys)
 
-  pub length-sides : (xs : List (Entry T)) → length (sides xs) ≡ length xs
+  pub length-sides : (xs : List (Taken T)) → length (sides xs) ≡ length xs
   length-sides [] = refl
   length-sides (x ∷ xs) = omega (arith, length-sides xs)
 
-  pub at_entry : (es : List (Entry T)) (j : ℕ) (p : Side T) → At (sides es) j p → (c : Came) × At es j (p, c)
-  at_entry [] j p h = absurd h
-  at_entry (e ∷ es) zero p h = (e.1, λ k. (h k, e.1))
-  at_entry (e ∷ es) (suc j) p h = at_entry es j p h
+  pub at_side : (ts : List (Taken T)) (j : ℕ) (t : Taken T) → At ts j t → At (sides ts) j t.side
+  at_side [] j t h = absurd h
+  at_side (u ∷ ts) zero t h = ap (λ x. x.side) h
+  at_side (u ∷ ts) (suc j) t h = at_side ts j t h
 
-  pub at_side : (es : List (Entry T)) (j : ℕ) (e : Entry T) → At es j e → At (sides es) j e.0
-  at_side [] j e h = absurd h
-  at_side (f ∷ es) zero e h = ap (λ x. x.0) h
-  at_side (f ∷ es) (suc j) e h = at_side es j e h
+  waiting_join : (xs ys : List (Waiting T)) → sides_waiting (xs ++ ys) ≡ sides_waiting xs ++ sides_waiting ys
+  waiting_join [] ys = refl
+  waiting_join (x ∷ xs) ys = ap (λ l. x.side ∷ l) (waiting_join xs ys)
 
-  pub meets_none : (P : Side T → Came → Type 0) (es : List (Entry T)) (pending : List ℕ) → Meets P es pending es pending
-  meets_none P es pending = record { added = []; entries = sym (append-nil es); opened = sym (append-nil pending); each = tt; apart = λ a. a }
+  -- a side of some that wait is the side of one of them
+  of_waiting : (ws : List (Waiting T)) (p : Side T) → Has (sides_waiting ws) p → (w : Waiting T) × Has ws w × (w.side ≡ p)
+  of_waiting [] p h = absurd h
+  of_waiting (w ∷ ws) p (inl e) = (w, inl refl, e)
+  of_waiting (w ∷ ws) p (inr h) = let r = of_waiting ws p h in (r.0, inr r.1, r.2)
 
-  pub meets_one : (es new : List (Entry T)) (pending pending_new : List ℕ) (s : Side T) (c : Came)
-      → new ≡ es ++ (s, c) ∷ [] → pending_new ≡ pending ++ length es ∷ [] → (Has (sides es) s → ⊥)
-      → Meets (λ t d. (t ≡ s) × (d ≡ c)) es pending new pending_new
-  meets_one es new pending pending_new s c entries opened absent = record {
-    added = (s, c) ∷ [];
-    entries = entries;
+  pub meets_none : (P : Side T → Step → Type 0) (depth : ℕ) (nodes : List T) (marks : List Marks) (waiting : List (Waiting T)) → IsNumbered nodes marks
+      → Meets P depth nodes marks waiting nodes marks waiting
+  meets_none P depth nodes marks waiting numbered = record {
+    numbered = numbered;
+    added = [];
+    opened = sym (append-nil waiting);
+    each = tt;
+    grown = λ p h. inl h;
+    stays = λ p h. h;
+    longer = λ i u h. h;
+    named = λ u h. inl h;
+    count = omega arith;
+  }
+
+  -- one side met, whose node has its number
+  pub meets_one : (nodes : List T) (marks marks' : List Marks) (waiting waiting' : List (Waiting T)) (w : Waiting T) → IsNumbered nodes marks' → At nodes w.number w.side.node
+      → IsMarked nodes marks' w.side → (IsMarked nodes marks w.side → ⊥) → ((p : Side T) → IsMarked nodes marks' p → IsMarked nodes marks p ⊎ (w.side ≡ p))
+      → ((p : Side T) → IsMarked nodes marks p → IsMarked nodes marks' p) → count_of marks' ≡ count_of marks + 1 → waiting' ≡ waiting ++ w ∷ []
+      → Meets (λ s t. (s ≡ w.side) × (t ≡ w.step)) w.depth nodes marks waiting nodes marks' waiting'
+  meets_one nodes marks marks' waiting waiting' w numbered number marked fresh grown stays count opened = record {
+    numbered = numbered;
+    added = w ∷ [];
     opened = opened;
-    each = ((refl, refl), tt);
-    apart = λ a. subst AreApart (sym (ap sides entries ∙ sides_join es ((s, c) ∷ []))) (apart_push (sides es) s a absent);
+    each = (record { step = (refl, refl); depth = refl; number = number; marked = marked; fresh = fresh }, tt);
+    grown = λ p h. elim (grown p h) [ inl old ↦ inl old | inr is ↦ inr (inl is) ];
+    stays = stays;
+    longer = λ i u h. h;
+    named = λ u h. inl h;
+    count = count;
   }
 
-  pub has_pushed : (es new : List (Entry T)) (s : Side T) (c : Came) → new ≡ es ++ (s, c) ∷ [] → Has (sides new) s
-  has_pushed es new s c entries = subst (λ l. Has l s) (sym (ap sides entries ∙ sides_join es ((s, c) ∷ []))) (has_right (sides es) (s ∷ []) s (inl refl))
-
-  numbers_join : (start : ℕ) (xs ys : List (Entry T)) → numbers_from start (xs ++ ys) ≡ numbers_from start xs ++ numbers_from (start + length xs) ys
-  numbers_join start [] ys = ap (λ k. numbers_from k ys) (sym (add-zero start))
-  numbers_join start (x ∷ xs) ys =
-      let e : start + 1 + length xs ≡ start + suc (length xs) = omega arith in
-      ap (λ l. start ∷ l) (numbers_join (start + 1) xs ys ∙ ap (λ k. numbers_from (start + 1) xs ++ numbers_from k ys) e)
-
-  pub meets_as : {P Q : Side T → Came → Type 0} {es new : List (Entry T)} {pending pending_new : List ℕ}
-      → ((s : Side T) (c : Came) → P s c → Q s c) → Meets P es pending new pending_new → Meets Q es pending new pending_new
-  meets_as {P} {Q} f m = record {
+  pub meets_as : {P Q : Side T → Step → Type 0} {depth : ℕ} {nodes nodes' : List T} {marks marks' : List Marks} {waiting waiting' : List (Waiting T)}
+      → ((s : Side T) (t : Step) → P s t → Q s t) → Meets P depth nodes marks waiting nodes' marks' waiting' → Meets Q depth nodes marks waiting nodes' marks' waiting'
+  meets_as {P} {Q} {depth} {nodes} {nodes'} {marks} {marks'} f m = record {
+    numbered = m.numbered;
     added = m.added;
-    entries = m.entries;
     opened = m.opened;
-    each = each_as (λ e. P e.0 e.1) (λ e. Q e.0 e.1) (λ e. f e.0 e.1) m.added m.each;
-    apart = m.apart;
+    each = each_as (IsNew P depth nodes marks nodes' marks') (IsNew Q depth nodes marks nodes' marks')
+        (λ w k. record { step = f w.side w.step k.step; depth = k.depth; number = k.number; marked = k.marked; fresh = k.fresh }) m.added m.each;
+    grown = m.grown;
+    stays = m.stays;
+    longer = m.longer;
+    named = λ u h. elim (m.named u h) [ inl old ↦ inl old | inr new ↦ inr (new.0, new.1, f new.0 new.1 new.2, new.3) ];
+    count = m.count;
   }
 
-  pub meets_on : {P : Side T → Came → Type 0} {es between new : List (Entry T)} {pending pending_between pending_new : List ℕ}
-      → Meets P es pending between pending_between → Meets P between pending_between new pending_new → Meets P es pending new pending_new
-  meets_on {P} {es} {between} {new} {pending} {pending_between} {pending_new} a b = record {
+  pub meets_on : {P : Side T → Step → Type 0} {depth : ℕ} {nodes nodes1 nodes2 : List T} {marks marks1 marks2 : List Marks} {waiting waiting1 waiting2 : List (Waiting T)}
+      → Meets P depth nodes marks waiting nodes1 marks1 waiting1 → Meets P depth nodes1 marks1 waiting1 nodes2 marks2 waiting2
+      → Meets P depth nodes marks waiting nodes2 marks2 waiting2
+  meets_on {P} {depth} {nodes} {nodes1} {nodes2} {marks} {marks1} {marks2} {waiting} a b = record {
+    numbered = b.numbered;
     added = a.added ++ b.added;
-    entries = b.entries ∙ ap (λ l. l ++ b.added) a.entries ∙ append_assoc es a.added b.added;
-    opened =
-        let e : length between ≡ length es + length a.added = ap length a.entries ∙ length-append es a.added in
-        b.opened ∙ ap (λ l. l ++ numbers_from (length between) b.added) a.opened
-        ∙ append_assoc pending (numbers_from (length es) a.added) (numbers_from (length between) b.added)
-        ∙ ap (λ k. pending ++ (numbers_from (length es) a.added ++ numbers_from k b.added)) e
-        ∙ ap (λ l. pending ++ l) (sym (numbers_join (length es) a.added b.added));
-    each = each_join (λ e. P e.0 e.1) a.added b.added a.each b.each;
-    apart = λ u. b.apart (a.apart u);
+    opened = b.opened ∙ ap (λ l. l ++ b.added) a.opened ∙ append_assoc waiting a.added b.added;
+    each =
+        each_join (IsNew P depth nodes marks nodes2 marks2) a.added b.added
+        (each_as (IsNew P depth nodes marks nodes1 marks1) (IsNew P depth nodes marks nodes2 marks2)
+        (λ w k. record { step = k.step; depth = k.depth; number = b.longer w.number w.side.node k.number; marked = b.stays w.side k.marked; fresh = k.fresh }) a.added a.each)
+        (each_as (IsNew P depth nodes1 marks1 nodes2 marks2) (IsNew P depth nodes marks nodes2 marks2)
+        (λ w k. record { step = k.step; depth = k.depth; number = k.number; marked = k.marked; fresh = λ h. k.fresh (a.stays w.side h) }) b.added b.each);
+    grown = λ p h. elim (b.grown p h) [
+      | inl between ↦ elim (a.grown p between) [
+        | inl old ↦ inl old
+        | inr new ↦ inr (subst (λ l. Has l p) (sym (waiting_join a.added b.added)) (has_left (sides_waiting a.added) (sides_waiting b.added) p new))
+      ]
+      | inr new ↦ inr (subst (λ l. Has l p) (sym (waiting_join a.added b.added)) (has_right (sides_waiting a.added) (sides_waiting b.added) p new))
+    ];
+    stays = λ p h. b.stays p (a.stays p h);
+    longer = λ i u h. b.longer i u (a.longer i u h);
+    named = λ u h. elim (b.named u h) [ inl between ↦ a.named u between | inr new ↦ inr new ];
+    count = b.count ∙ ap (λ k. k + length b.added) a.count ∙ omega (arith, length-append a.added b.added);
   }
 
-  -- a side that has been met stays met
-  pub meets_keeps : {P : Side T → Came → Type 0} {es new : List (Entry T)} {pending pending_new : List ℕ}
-      → Meets P es pending new pending_new → (s : Side T) → Has (sides es) s → Has (sides new) s
-  meets_keeps {P} {es} {new} m s h = subst (λ l. Has l s) (sym (ap sides m.entries ∙ sides_join es m.added)) (has_left (sides es) (sides m.added) s h)
+  -- one side met, whose node got its number first
+  pub meets_named : {P : Side T → Step → Type 0} {depth : ℕ} {nodes nodes1 nodes2 : List T} {marks marks1 marks2 : List Marks} {waiting waiting2 : List (Waiting T)}
+      (number : ℕ) (side : Side T) (step : Step) → P side step → Names side.node number nodes marks nodes1 marks1
+      → Meets P depth nodes1 marks1 waiting nodes2 marks2 waiting2 → Meets P depth nodes marks waiting nodes2 marks2 waiting2
+  meets_named {P} {depth} {nodes} {nodes1} {nodes2} {marks} {marks1} {marks2} number side step holds a b = record {
+    numbered = b.numbered;
+    added = b.added;
+    opened = b.opened;
+    each = each_as (IsNew P depth nodes1 marks1 nodes2 marks2) (IsNew P depth nodes marks nodes2 marks2)
+        (λ w k. record { step = k.step; depth = k.depth; number = k.number; marked = k.marked; fresh = λ h. k.fresh (a.stays w.side h) }) b.added b.each;
+    grown = λ p h. elim (b.grown p h) [ inl between ↦ inl (a.only p between) | inr new ↦ inr new ];
+    stays = λ p h. b.stays p (a.stays p h);
+    longer = λ i u h. b.longer i u (a.longer i u h);
+    named = λ u h. elim (b.named u h) [
+      | inl between ↦ elim (a.named u between) [ inl old ↦ inl old | inr is ↦ inr (side, step, holds, is) ]
+      | inr new ↦ inr new
+    ];
+    count = b.count ∙ ap (λ k. k + length b.added) a.count;
+  }
 
   -- the reads of v from `index` on have been met
-  pub record IsReading (n : Shape T) (v : T) (at : ℕ) (es : List (Entry T)) (pending : List ℕ) (now : List (Entry T)) (pending_now : List ℕ) (index : ℕ) : Type 0 where
-    pub meets : Meets (λ s c. (c.parent ≡ at) × IsRead n v c.step s) es pending now pending_now
-    pub met : (i : ℕ) → index ≤ i → i < n.reads v → Has (sides now) (near (n.read v i))
+  pub record IsReading (n : Shape T) (v : T) (depth : ℕ) (nodes : List T) (marks : List Marks) (waiting : List (Waiting T))
+      (nodes' : List T) (marks' : List Marks) (waiting' : List (Waiting T)) (index : ℕ) : Type 0 where
+    pub meets : Meets (λ s t. IsRead n v t s) depth nodes marks waiting nodes' marks' waiting'
+    pub met : (i : ℕ) → index ≤ i → i < n.reads v → IsMarked nodes' marks' (near (n.read v i))
 
-  pub reading_first : (n : Shape T) (v : T) (at : ℕ) (es : List (Entry T)) (pending : List ℕ) (index : ℕ) → index ≡ n.reads v → IsReading n v at es pending es pending index
-  reading_first n v at es pending index e = record { meets = meets_none _ es pending; met = λ i l h. let c : ⊥ = omega arith in absurd c }
+  pub reading_first : (n : Shape T) (v : T) (depth : ℕ) (nodes : List T) (marks : List Marks) (waiting : List (Waiting T)) (index : ℕ) → index ≡ n.reads v → IsNumbered nodes marks
+      → IsReading n v depth nodes marks waiting nodes marks waiting index
+  reading_first n v depth nodes marks waiting index e numbered = record {
+    meets = meets_none _ depth nodes marks waiting numbered;
+    met = λ i l h. let c : ⊥ = omega arith in absurd c;
+  }
 
-  pub reading_on : {n : Shape T} {v : T} {at : ℕ} {es : List (Entry T)} {pending : List ℕ} {now : List (Entry T)} {pending_now : List ℕ}
-      (old index : ℕ) (new : List (Entry T)) (pending_new : List ℕ) (side : Side T) (came : Came)
-      → index + 1 ≡ old → index < n.reads v → side ≡ near (n.read v index) → came ≡ record { parent = at; step = Read index }
-      → IsReading n v at es pending now pending_now old
-      → Meets (λ s c. (s ≡ side) × (c ≡ came)) now pending_now new pending_new
-      → Has (sides new) side → IsReading n v at es pending new pending_new index
-  reading_on {n} {v} {at} old index new pending_new side came next lt is_side is_came r m h = record {
-    meets = meets_on r.meets (meets_as (λ s c e. (ap (λ d. d.parent) (e.1 ∙ is_came), subst (λ d. IsRead n v d.step s) (sym (e.1 ∙ is_came)) (lt, e.0 ∙ is_side))) m);
+  pub reading_on : {n : Shape T} {v : T} {depth : ℕ} {nodes nodes1 : List T} {marks marks1 : List Marks} {waiting waiting1 : List (Waiting T)}
+      (old index : ℕ) (nodes2 : List T) (marks2 : List Marks) (waiting2 : List (Waiting T)) (side : Side T) (step : Step)
+      → index + 1 ≡ old → index < n.reads v → side ≡ near (n.read v index) → step ≡ Read index
+      → IsReading n v depth nodes marks waiting nodes1 marks1 waiting1 old
+      → Meets (λ s t. (s ≡ side) × (t ≡ step)) depth nodes1 marks1 waiting1 nodes2 marks2 waiting2
+      → IsMarked nodes2 marks2 side → IsReading n v depth nodes marks waiting nodes2 marks2 waiting2 index
+  reading_on {n} {v} old index nodes2 marks2 waiting2 side step next lt is_side is_step r m h = record {
+    meets = meets_on r.meets (meets_as (λ s t e. subst (λ u. IsRead n v u s) (sym (e.1 ∙ is_step)) (lt, e.0 ∙ is_side)) m);
     met = λ i l k. elim (cases_lt index i) [
-      | inl more ↦ let l1 : old ≤ i = omega arith in meets_keeps m (near (n.read v i)) (r.met i l1 k)
-      | inr less ↦ let e : index ≡ i = omega arith in subst (λ j. Has (sides new) (near (n.read v j))) e (subst (Has (sides new)) is_side h)
+      | inl more ↦ let l1 : old ≤ i = omega arith in m.stays (near (n.read v i)) (r.met i l1 k)
+      | inr less ↦ let e : index ≡ i = omega arith in subst (λ j. IsMarked nodes2 marks2 (near (n.read v j))) e (subst (IsMarked nodes2 marks2) is_side h)
     ];
   }
 
-  -- the far ends of the first `index` edges have been met
-  pub record IsGoingBack (edges : List (Edge T)) (at : ℕ) (es : List (Entry T)) (pending : List ℕ) (now : List (Entry T)) (pending_now : List ℕ) (index : ℕ) : Type 0 where
-    pub meets : Meets (λ s c. (c.parent ≡ at) × IsBack edges c.step s) es pending now pending_now
-    pub met : Each (λ e. Has (sides now) (far e.from)) (take index edges)
+  -- the far sides at the beginnings of the first `index` edges have been met
+  pub record IsGoingBack (edges : List (Edge T)) (depth : ℕ) (nodes : List T) (marks : List Marks) (waiting : List (Waiting T))
+      (nodes' : List T) (marks' : List Marks) (waiting' : List (Waiting T)) (index : ℕ) : Type 0 where
+    pub meets : Meets (λ s t. IsBack edges t s) depth nodes marks waiting nodes' marks' waiting'
+    pub met : Each (λ e. IsMarked nodes' marks' (far e.from)) (take index edges)
 
-  pub back_first : (edges : List (Edge T)) (at : ℕ) (es : List (Entry T)) (pending : List ℕ) → IsGoingBack edges at es pending es pending 0
-  back_first edges at es pending = record { meets = meets_none _ es pending; met = tt }
+  pub back_first : (edges : List (Edge T)) (depth : ℕ) (nodes : List T) (marks : List Marks) (waiting : List (Waiting T)) → IsNumbered nodes marks
+      → IsGoingBack edges depth nodes marks waiting nodes marks waiting 0
+  back_first edges depth nodes marks waiting numbered = record { meets = meets_none _ depth nodes marks waiting numbered; met = tt }
 
-  pub back_on : {edges : List (Edge T)} {at : ℕ} {es : List (Entry T)} {pending : List ℕ} {now : List (Entry T)} {pending_now : List ℕ}
-      (index : ℕ) (edge : Edge T) (new : List (Entry T)) (pending_new : List ℕ) (side : Side T) (came : Came)
-      → index < length edges → edge ≡ get_or edges index edge → side ≡ far edge.from → came ≡ record { parent = at; step = Back edge.index }
-      → IsGoingBack edges at es pending now pending_now index
-      → Meets (λ s c. (s ≡ side) × (c ≡ came)) now pending_now new pending_new
-      → Has (sides new) side → IsGoingBack edges at es pending new pending_new (index + 1)
-  back_on {edges} {at} {es} {pending} {now} index edge new pending_new side came lt is_edge is_side is_came r m h =
+  pub back_on : {edges : List (Edge T)} {depth : ℕ} {nodes nodes1 : List T} {marks marks1 : List Marks} {waiting waiting1 : List (Waiting T)}
+      (index : ℕ) (edge : Edge T) (nodes2 : List T) (marks2 : List Marks) (waiting2 : List (Waiting T)) (side : Side T) (step : Step)
+      → index < length edges → edge ≡ get_or edges index edge → side ≡ far edge.from → step ≡ Back edge.index
+      → IsGoingBack edges depth nodes marks waiting nodes1 marks1 waiting1 index
+      → Meets (λ s t. (s ≡ side) × (t ≡ step)) depth nodes1 marks1 waiting1 nodes2 marks2 waiting2
+      → IsMarked nodes2 marks2 side → IsGoingBack edges depth nodes marks waiting nodes2 marks2 waiting2 (index + 1)
+  back_on {edges} {depth} {nodes} {nodes1} {marks} {marks1} index edge nodes2 marks2 waiting2 side step lt is_edge is_side is_step r m h =
       let among : Has edges edge = subst (Has edges) (sym is_edge) (has_get edges index edge lt) in
       record {
-        meets = meets_on r.meets (meets_as (λ s c e.
-            (ap (λ x. x.parent) (e.1 ∙ is_came), subst (λ x. IsBack edges x.step s) (sym (e.1 ∙ is_came)) (edge, among, refl, e.0 ∙ is_side))) m);
-        met = subst (Each (λ e. Has (sides new) (far e.from))) (sym (take_more edges index edge lt))
-            (each_join (λ e. Has (sides new) (far e.from)) (take index edges) (get_or edges index edge ∷ [])
-            (each_as (λ e. Has (sides now) (far e.from)) (λ e. Has (sides new) (far e.from)) (λ e k. meets_keeps m (far e.from) k) (take index edges) r.met)
-            (subst (λ e. Has (sides new) (far e.from)) is_edge (subst (Has (sides new)) is_side h), tt));
+        meets = meets_on r.meets (meets_as (λ s t e. subst (λ u. IsBack edges u s) (sym (e.1 ∙ is_step)) (edge, among, refl, e.0 ∙ is_side)) m);
+        met = subst (Each (λ e. IsMarked nodes2 marks2 (far e.from))) (sym (take_more edges index edge lt))
+            (each_join (λ e. IsMarked nodes2 marks2 (far e.from)) (take index edges) (get_or edges index edge ∷ [])
+            (each_as (λ e. IsMarked nodes1 marks1 (far e.from)) (λ e. IsMarked nodes2 marks2 (far e.from)) (λ e k. m.stays (far e.from) k) (take index edges) r.met)
+            (subst (λ e. IsMarked nodes2 marks2 (far e.from)) is_edge (subst (IsMarked nodes2 marks2) is_side h), tt));
       }
 
   -- after the reads and the near side, each step from the far side of v has been taken
-  pub follows_far : (n : Shape T) (v : T) (es : List (Entry T)) → Has (sides es) (near v)
-      → ((i : ℕ) → i < n.reads v → Has (sides es) (near (n.read v i))) → (edges : List (Edge T)) → Follows n edges es (far v)
-  follows_far n v es here reads edges (Read i) q h = subst (Has (sides es)) (sym h.1.1) (reads i h.1.0)
-  follows_far n v es here reads edges Cross q h = absurd (true≢false h.0)
-  follows_far n v es here reads edges Return q h = subst (Has (sides es)) (sym h.1) here
-  follows_far n v es here reads edges (Back i) q h = absurd (true≢false h.0)
+  pub follows_far : (n : Shape T) (v : T) (Met : Side T → Type 0) → Met (near v) → ((i : ℕ) → i < n.reads v → Met (near (n.read v i)))
+      → (edges : List (Edge T)) → Follows n edges Met (far v)
+  follows_far n v Met here reads edges (Read i) q h = subst Met (sym h.1.1) (reads i h.1.0)
+  follows_far n v Met here reads edges Cross q h = absurd (true≢false h.0)
+  follows_far n v Met here reads edges Return q h = subst Met (sym h.1) here
+  follows_far n v Met here reads edges (Back i) q h = absurd (true≢false h.0)
 
   -- after the far ends of the edges, and the far side where v can be crossed, each step from the near side of v has been taken
-  pub follows_near : (n : Shape T) (v : T) (edges : List (Edge T)) (es : List (Entry T)) → Each (λ e. Has (sides es) (far e.from)) edges
-      → ((n.may_cut v ≡ false) ⊎ (edges ≡ []) → Has (sides es) (far v)) → Follows n edges es (near v)
-  follows_near n v edges es back across (Read i) q h = absurd (true≢false (sym h.0))
-  follows_near n v edges es back across Cross q h = subst (Has (sides es)) (sym h.1) (across h.2)
-  follows_near n v edges es back across Return q h = absurd (true≢false (sym h.0))
-  follows_near n v edges es back across (Back i) q h =
-      subst (Has (sides es)) (sym h.1.3) (each_has (λ e. Has (sides es) (far e.from)) edges back h.1.0 h.1.1)
+  pub follows_near : (n : Shape T) (v : T) (edges : List (Edge T)) (Met : Side T → Type 0) → Each (λ e. Met (far e.from)) edges
+      → ((n.may_cut v ≡ false) ⊎ (edges ≡ []) → Met (far v)) → Follows n edges Met (near v)
+  follows_near n v edges Met back across (Read i) q h = absurd (true≢false (sym h.0))
+  follows_near n v edges Met back across Cross q h = subst Met (sym h.1) (across h.2)
+  follows_near n v edges Met back across Return q h = absurd (true≢false (sym h.0))
+  follows_near n v edges Met back across (Back i) q h = subst Met (sym h.1.3) (each_has (λ e. Met (far e.from)) edges back h.1.0 h.1.1)
 
-  pub far_reads : (n : Shape T) (v : T) {at : ℕ} {es new : List (Entry T)} {pending pending_new : List ℕ} → (edges : List (Edge T))
-      → Meets (λ s c. (c.parent ≡ at) × IsRead n v c.step s) es pending new pending_new → Meets (IsStepFrom n edges at (far v)) es pending new pending_new
-  far_reads n v {at} edges m = meets_as (λ s c h. (h.0, is_step c.step s h.1)) m
-    where
-      is_step : (step : Step) (s : Side T) → IsRead n v step s → IsStep n edges (far v) step s
-      is_step (Read i) s h = (refl, h)
-      is_step Cross s h = absurd h
-      is_step Return s h = absurd h
-      is_step (Back i) s h = absurd h
+  pub read_is_step : (n : Shape T) (v : T) (edges : List (Edge T)) (s : Side T) (step : Step) → IsRead n v step s → IsStep n edges (far v) step s
+  read_is_step n v edges s (Read i) h = (refl, h)
+  read_is_step n v edges s Cross h = absurd h
+  read_is_step n v edges s Return h = absurd h
+  read_is_step n v edges s (Back i) h = absurd h
 
-  pub near_backs : (n : Shape T) (v : T) {at : ℕ} {edges : List (Edge T)} {es new : List (Entry T)} {pending pending_new : List ℕ}
-      → Meets (λ s c. (c.parent ≡ at) × IsBack edges c.step s) es pending new pending_new → Meets (IsStepFrom n edges at (near v)) es pending new pending_new
-  near_backs n v {at} {edges} m = meets_as (λ s c h. (h.0, is_step c.step s h.1)) m
-    where
-      is_step : (step : Step) (s : Side T) → IsBack edges step s → IsStep n edges (near v) step s
-      is_step (Read i) s h = absurd h
-      is_step Cross s h = absurd h
-      is_step Return s h = absurd h
-      is_step (Back i) s h = (refl, h)
+  pub back_is_step : (n : Shape T) (v : T) (edges : List (Edge T)) (s : Side T) (step : Step) → IsBack edges step s → IsStep n edges (near v) step s
+  back_is_step n v edges s (Read i) h = absurd h
+  back_is_step n v edges s Cross h = absurd h
+  back_is_step n v edges s Return h = absurd h
+  back_is_step n v edges s (Back i) h = (refl, h)
 
   -- one side met by one step
-  pub meets_step : (n : Shape T) (edges : List (Edge T)) (at : ℕ) (p side : Side T) (came : Came) {es new : List (Entry T)} {pending pending_new : List ℕ}
-      → IsStepFrom n edges at p side came → Meets (λ s c. (s ≡ side) × (c ≡ came)) es pending new pending_new → Meets (IsStepFrom n edges at p) es pending new pending_new
-  meets_step n edges at p side came h m = meets_as (λ s c e. subst (λ t. IsStepFrom n edges at p t c) (sym e.0) (subst (IsStepFrom n edges at p side) (sym e.1) h)) m
+  pub step_as : (n : Shape T) (edges : List (Edge T)) (p side : Side T) (step : Step) → IsStep n edges p step side
+      → (s : Side T) (t : Step) → (s ≡ side) × (t ≡ step) → IsStep n edges p t s
+  step_as n edges p side step h s t e = subst (λ q. IsStep n edges p t q) (sym e.0) (subst (λ u. IsStep n edges p u side) (sym e.1) h)
 
   pub far_is : (p : Side T) → p.is_far ≡ true → p ≡ far p.node
   far_is p e = λ j. record { node = p.node; is_far = e j }
@@ -181,133 +225,268 @@ module _ {T : Type 0} where
   pub near_is : (p : Side T) → p.is_far ≡ false → p ≡ near p.node
   near_is p e = λ j. record { node = p.node; is_far = e j }
 
-  -- a search under way: each side met is still pending, or each step from it has been taken
-  pub record IsSearching (n : Shape T) (into : T → List (Edge T)) (root : T) (es : List (Entry T)) (pending : List ℕ) : Type 0 where
-    pub search : IsSearch n into root es
-    pub done : (j : ℕ) (p : Side T) → At (sides es) j p → Has pending j ⊎ (Follows n (into p.node) es p × (IsGoal n p → ⊥))
-    pub within : Each (λ j. j < length es) pending
+  -- what waits was met from sides no nearer to the root than what waits before it
+  pub AreStacked : List (Waiting T) → Type 0
+  AreStacked [] = Unit {0}
+  AreStacked (w ∷ ws) = Each (λ u. w.depth ≤ u.depth) ws × AreStacked ws
 
-  at_keeps : {P : Side T → Came → Type 0} {es new : List (Entry T)} {pending pending_new : List ℕ}
-      → Meets P es pending new pending_new → (j : ℕ) (p : Side T) → At (sides es) j p → At (sides new) j p
-  at_keeps {P} {es} {new} m j p h = subst (λ l. At l j p) (sym (ap sides m.entries ∙ sides_join es m.added)) (at_left (sides es) (sides m.added) j p h)
+  stacked_last : (ws : List (Waiting T)) (w : Waiting T) → AreStacked (ws ++ w ∷ []) → AreStacked ws × Each (λ u. u.depth ≤ w.depth) ws
+  unfolding AreStacked
+  stacked_last [] w h = (tt, tt)
+  stacked_last (u ∷ ws) w h =
+      let r = stacked_last ws w h.1 in (
+        (each_left (λ x. u.depth ≤ x.depth) ws (w ∷ []) h.0, r.0),
+        ((each_right (λ x. u.depth ≤ x.depth) ws (w ∷ []) h.0).0, r.1),
+      )
 
-  -- an entry of a search that grew is an old one, or a new one whose number is pending
-  at_new : {P : Side T → Came → Type 0} {es new : List (Entry T)} {pending pending_new : List ℕ}
-      → Meets P es pending new pending_new → (j : ℕ) (e : Entry T) → At new j e
-      → At es j e ⊎ ((length es ≤ j) × P e.0 e.1 × Has pending_new j)
-  at_new {P} {es} {new} {pending} {pending_new} m j e h =
-      elim (at_either es m.added j e (subst (λ l. At l j e) m.entries h)) [
-        | inl old ↦ inl old
-        | inr fresh ↦
-            let number : Has (numbers_from (length es) m.added) (length es + fresh.0) = numbers_has (length es) m.added fresh.0 (at_within m.added fresh.0 e fresh.2) in
-            let le : length es ≤ j = omega (arith, fresh.1) in
-            inr (
-              le,
-              each_at (λ x. P x.0 x.1) m.added fresh.0 e m.each fresh.2,
-              subst (λ l. Has l j) (sym m.opened) (has_right pending (numbers_from (length es) m.added) j (subst (Has (numbers_from (length es) m.added)) (sym fresh.1) number)),
-            )
-      ]
+  stacked_same : (depth : ℕ) (ws : List (Waiting T)) → Each (λ u. u.depth ≡ depth) ws → AreStacked ws
+  unfolding AreStacked
+  stacked_same depth [] h = tt
+  stacked_same depth (w ∷ ws) h =
+      let e : w.depth ≡ depth = h.0 in
+      (each_as (λ u. u.depth ≡ depth) (λ u. w.depth ≤ u.depth) (λ u k. omega arith) ws h.1, stacked_same depth ws h.1)
 
-  within_new : {P : Side T → Came → Type 0} {es new : List (Entry T)} {pending pending_new : List ℕ}
-      → Meets P es pending new pending_new → Each (λ j. j < length es) pending → Each (λ j. j < length new) pending_new
-  within_new {P} {es} {new} {pending} {pending_new} m old =
-      let e : length new ≡ length es + length m.added = ap length m.entries ∙ length-append es m.added in
-      subst (Each (λ j. j < length new)) (sym m.opened)
-      (each_join (λ j. j < length new) pending (numbers_from (length es) m.added)
-      (each_as (λ j. j < length es) (λ j. j < length new) (λ j l. omega arith) pending old)
-      (each_from (λ j. j < length new) (numbers_from (length es) m.added) (λ j h. let l : j < length es + length m.added = numbers_within (length es) m.added j h in omega arith)))
+  stacked_join : (depth : ℕ) (ws us : List (Waiting T)) → AreStacked ws → Each (λ u. u.depth ≤ depth) ws → Each (λ u. u.depth ≡ depth) us → AreStacked (ws ++ us)
+  unfolding AreStacked
+  stacked_join depth [] us a b c = stacked_same depth us c
+  stacked_join depth (w ∷ ws) us a b c =
+      let le : w.depth ≤ depth = b.0 in (
+        each_join (λ u. w.depth ≤ u.depth) ws us a.0 (each_as (λ u. u.depth ≡ depth) (λ u. w.depth ≤ u.depth) (λ u k. omega arith) us c),
+        stacked_join depth ws us a.1 b.1 c,
+      )
 
-  pub searching_first : (n : Shape T) (into : T → List (Edge T)) (root : T) (side : Side T) (came : Came) (es : List (Entry T)) (pending : List ℕ) → side ≡ far root
-      → {none : List (Entry T)} {nothing : List ℕ} → none ≡ [] → nothing ≡ []
-      → Meets (λ s c. (s ≡ side) × (c ≡ came)) none nothing es pending → Has (sides es) side → IsSearching n into root es pending
-  searching_first n into root side came es pending is_root {none} {nothing} no_entry no_number meets h =
-      let m : Meets (λ s c. (s ≡ side) × (c ≡ came)) [] [] es pending =
-      subst (λ l. Meets (λ s c. (s ≡ side) × (c ≡ came)) l [] es pending) no_entry
-      (subst (λ l. Meets (λ s c. (s ≡ side) × (c ≡ came)) none l es pending) no_number meets) in
-      let apart : AreApart (sides es) = m.apart tt in
-      let place : (i : ℕ) × At (sides es) i side = has_at (sides es) side h in
-      let at_root : (j : ℕ) (p : Side T) → At (sides es) j p → Has pending j × (p ≡ side) =
-      λ j p a. let entry : (c : Came) × At es j (p, c) = at_entry es j p a in
-      elim (at_new m j (p, entry.0) entry.1) [ inl old ↦ absurd old | inr new ↦ (new.2, new.1.0) ] in
-      let zeroth : (j : ℕ) (p : Side T) → At (sides es) j p → j ≡ 0 =
-      λ j p a. let some : (q : Side T) × At (sides es) 0 q = at_some (sides es) 0 (let lt = at_within (sides es) j p a in omega arith) in
-      let same_side : p ≡ some.0 = (at_root j p a).1 ∙ sym (at_root 0 some.0 some.1).1 in
-      at_once (sides es) j 0 p apart a (subst (At (sides es) 0) (sym same_side) some.1) in
-      let first : At (sides es) 0 (far root) = subst (λ i. At (sides es) i (far root)) (zeroth place.0 side place.1) (subst (At (sides es) place.0) is_root place.1) in
-      record {
-        search = record {
-          first = first;
-          came = λ j e a pos. let z : j ≡ 0 = zeroth j e.0 (at_side es j e a) in let c : ⊥ = omega arith in absurd c;
-          apart = apart;
-        };
-        done = λ j p a. inl (at_root j p a).0;
-        within = within_new m tt;
-      }
+  abbrev pub taken : Waiting T → Taken T
+  taken w = record { side = w.side; step = w.step }
 
-  pub searching_on : (n : Shape T) (into : T → List (Edge T)) (root : T) (es : List (Entry T)) (before pending : List ℕ) (at : ℕ) (p : Side T) (new : List (Entry T)) (pending_new : List ℕ)
-      → IsSearching n into root es before → before ≡ pending ++ at ∷ [] → At (sides es) at p → (IsGoal n p → ⊥)
-      → Meets (IsStepFrom n (into p.node) at p) es pending new pending_new → Follows n (into p.node) new p
-      → IsSearching n into root new pending_new
-  searching_on n into root es before pending at p new pending_new s popped here no_goal m follows =
-      let within : Each (λ j. j < length es) (pending ++ at ∷ []) = subst (Each (λ j. j < length es)) popped s.within in
-      let lt : at < length es = (each_right (λ j. j < length es) pending (at ∷ []) within).0 in
-      record {
-        search = record {
-          first = at_keeps m 0 (far root) s.search.first;
-          came = λ j e a pos. elim (at_new m j e a) [
-            | inl old ↦ let c = s.search.came j e old pos in (c.0, c.1, at_keeps m e.1.parent c.0 c.2, c.3)
-            | inr fresh ↦
-                let le : length es ≤ j = fresh.0 in
-                let parent : e.1.parent ≡ at = fresh.1.0 in
-                let less : e.1.parent < j = omega arith in
-                (p, less, subst (λ i. At (sides new) i p) (sym parent) (at_keeps m at p here), fresh.1.1)
-          ];
-          apart = m.apart s.search.apart;
-        };
-        done = λ j q a. let entry : (c : Came) × At new j (q, c) = at_entry new j q a in
-            elim (at_new m j (q, entry.0) entry.1) [
-              | inl old ↦ elim (s.done j q (at_side es j (q, entry.0) old)) [
-                | inl waits ↦ elim (has_either pending (at ∷ []) j (subst (λ l. Has l j) popped waits)) [
-                  | inl still ↦ inl (subst (λ l. Has l j) (sym m.opened) (has_left pending (numbers_from (length es) m.added) j still))
-                  | inr this ↦ elim this [
-                    | inl e ↦
-                        let same_side : p ≡ q = at_same (sides es) at p q here (subst (λ i. At (sides es) i q) (sym e) (at_side es j (q, entry.0) old)) in
-                        inr (subst (λ r. Follows n (into r.node) new r × (IsGoal n r → ⊥)) same_side (follows, no_goal))
-                    | inr none ↦ absurd none
-                  ]
-                ]
-                | inr over ↦ inr ((λ step r h. meets_keeps m r (over.0 step r h)), over.1)
-              ]
-              | inr fresh ↦ inl fresh.2
-            ];
-        within = within_new m (each_left (λ j. j < length es) pending (at ∷ []) within);
-      }
+  -- a way goes on by one step from its last side to a side that it has not come to
+  way_on : (n : Shape T) (into : T → List (Edge T)) (root : T) (front : List (Taken T)) (w u : Taken T) → IsWay n into root (front ++ w ∷ [])
+      → IsStep n (into w.side.node) w.side u.step u.side → (Has (sides (front ++ w ∷ [])) u.side → ⊥) → IsWay n into root ((front ++ w ∷ []) ++ u ∷ [])
+  way_on n into root front w u way step absent = record {
+    first = subst (λ l. At l 0 (far root)) (sym (sides_join (front ++ w ∷ []) (u ∷ []))) (at_left (sides (front ++ w ∷ [])) (u.side ∷ []) 0 (far root) way.first);
+    came = λ j t a pos. elim (at_either (front ++ w ∷ []) (u ∷ []) j t a) [
+      | inl old ↦ let c = way.came j t old pos in (c.0, left (j - 1) c.0 c.1, c.2)
+      | inr new ↦ by j t pos new.0 new.1 new.2
+    ];
+    apart = subst AreApart (sym (sides_join (front ++ w ∷ []) (u ∷ []))) (apart_push (sides (front ++ w ∷ [])) u.side way.apart absent);
+  }
+    where
+      left : (j : ℕ) (p : Side T) → At (sides (front ++ w ∷ [])) j p → At (sides ((front ++ w ∷ []) ++ u ∷ [])) j p
+      left j p h = subst (λ l. At l j p) (sym (sides_join (front ++ w ∷ []) (u ∷ []))) (at_left (sides (front ++ w ∷ [])) (u.side ∷ []) j p h)
 
-  -- a pending number is the number of a side
-  pub pops_within : {n : Shape T} {into : T → List (Edge T)} {root : T} {es : List (Entry T)} {before : List ℕ} → IsSearching n into root es before
-      → (pending : List ℕ) (at : ℕ) → before ≡ pending ++ at ∷ [] → at < length es
-  pops_within {n} {into} {root} {es} s pending at popped =
-      (each_right (λ j. j < length es) pending (at ∷ []) (subst (Each (λ j. j < length es)) popped s.within)).0
+      last : At (sides (front ++ w ∷ [])) (length front) w.side
+      last = subst (λ l. At l (length front) w.side) (sym (sides_join front (w ∷ [])))
+          (subst (λ k. At (sides front ++ w.side ∷ []) k w.side) (length-sides front) (at_after (sides front) [] w.side))
 
-  pub searched_out : (n : Shape T) (into : T → List (Edge T)) (root : T) (es : List (Entry T)) (pending : List ℕ)
-      → IsSearching n into root es pending → length pending ≡ 0 → IsSearchedOut n into es
-  searched_out n into root es pending s empty p h =
-      let place : (i : ℕ) × At (sides es) i p = has_at (sides es) p h in
-      elim (s.done place.0 p place.1) [ inl waits ↦ let number = has_at pending place.0 waits in let lt = at_within pending number.0 place.0 number.1 in let c : ⊥ = omega arith in absurd c | inr over ↦ over ]
+      by : (j : ℕ) (t : Taken T) → 0 < j → (d : ℕ) → j ≡ length (front ++ w ∷ []) + d → At (u ∷ []) d t
+          → (p : Side T) × At (sides ((front ++ w ∷ []) ++ u ∷ [])) (j - 1) p × IsStep n (into p.node) p t.step t.side
+      by j t pos zero e is =
+          let place : length front ≡ j - 1 = omega (arith, length-append front (w ∷ [])) in
+          (w.side, left (j - 1) w.side (subst (λ k. At (sides (front ++ w ∷ [])) k w.side) place last), subst (λ x. IsStep n (into w.side.node) w.side x.step x.side) is step)
+      by j t pos (suc d) e is = absurd is
 
-  length-numbers_from : (start : ℕ) (xs : List (Entry T)) → length (numbers_from start xs) ≡ length xs
-  length-numbers_from start [] = refl
-  length-numbers_from start (x ∷ xs) = omega (arith, length-numbers_from (start + 1) xs)
+  -- the way that begins with the root
+  way_first : (n : Shape T) (into : T → List (Edge T)) (root : T) (t : Taken T) → t.side ≡ far root → IsWay n into root (t ∷ [])
+  way_first n into root t is = record {
+    first = is;
+    came = λ j u a pos. by j u a pos;
+    apart = ((λ h. h), tt);
+  }
+    where
+      by : (j : ℕ) (u : Taken T) → At (t ∷ []) j u → 0 < j → (p : Side T) × At (sides (t ∷ [])) (j - 1) p × IsStep n (into p.node) p u.step u.side
+      by zero u a pos = let none : ⊥ = omega arith in absurd none
+      by (suc j) u a pos = absurd a
 
-  -- a turn of a search takes one pending number, and adds one for each side that it meets
-  pub searching_falls : {P : Side T → Came → Type 0} {es new : List (Entry T)} {pending pending_new : List ℕ} (most : ℕ) (before : List ℕ) (at : ℕ)
-      → Meets P es pending new pending_new → before ≡ pending ++ at ∷ [] → length new ≤ most
-      → 2 * (most - length new) + length pending_new < 2 * (most - length es) + length before
-  searching_falls {P} {es} {new} {pending} {pending_new} most before at m popped few =
-      let longer : length new ≡ length es + length m.added = ap length m.entries ∙ length-append es m.added in
-      let opened : length pending_new ≡ length pending + length (numbers_from (length es) m.added) = ap length m.opened ∙ length-append pending (numbers_from (length es) m.added) in
-      let numbers : length (numbers_from (length es) m.added) ≡ length m.added = length-numbers_from (length es) m.added in
-      let one : length before ≡ length pending + 1 = ap length popped ∙ length-append pending (at ∷ []) in
+  -- a side that waits is met, and the way leads to it from the side at its depth
+  pub record IsOpen (n : Shape T) (into : T → List (Edge T)) (root : T) (nodes : List T) (marks : List Marks) (ts : List (Taken T)) (w : Waiting T) : Type 0 where
+    pub way : IsWay n into root (take w.depth ts ++ taken w ∷ [])
+    pub within : w.depth ≤ length ts
+    pub number : At nodes w.number w.side.node
+    pub marked : IsMarked nodes marks w.side
+
+  -- a search under way: each side met waits, or each step from it has been taken
+  pub record IsSearching (n : Shape T) (into : T → List (Edge T)) (root : T) (nodes : List T) (marks : List Marks) (waiting : List (Waiting T)) (ts : List (Taken T)) : Type 0 where
+    pub numbered : IsNumbered nodes marks
+    pub start : IsMarked nodes marks (far root)
+    pub reached : Each (Reaches n root) nodes
+    pub done : (p : Side T) → IsMarked nodes marks p → Has (sides_waiting waiting) p ⊎ (Follows n (into p.node) (IsMarked nodes marks) p × (IsGoal n p → ⊥))
+    pub opens : Each (IsOpen n into root nodes marks ts) waiting
+    pub stacked : AreStacked waiting
+    pub on : Each (IsMarked nodes marks) (sides ts)
+
+  pub searching_first : (n : Shape T) (into : T → List (Edge T)) (root : T) (nodes : List T) (marks : List Marks) (waiting : List (Waiting T)) (ts : List (Taken T)) (step : Step)
+      → Meets (λ s t. (s ≡ far root) × (t ≡ step)) 0 [] [] [] nodes marks waiting → IsMarked nodes marks (far root) → ts ≡ []
+      → IsSearching n into root nodes marks waiting ts
+  searching_first n into root nodes marks waiting ts step m start empty = record {
+    numbered = m.numbered;
+    start = start;
+    reached = each_from (Reaches n root) nodes (λ v h. elim (m.named v h) [
+      | inl old ↦ absurd old
+      | inr new ↦ subst (Reaches n root) (sym (ap (λ p. p.node) new.2.0) ∙ new.3) (reaches_here n root)
+    ]);
+    done = λ p h. elim (m.grown p h) [
+      | inl old ↦ absurd (none_marked p old)
+      | inr new ↦ inl (subst (λ l. Has (sides_waiting l) p) (sym m.opened) new)
+    ];
+    opens = subst (Each (IsOpen n into root nodes marks ts)) (sym m.opened)
+        (each_as (IsNew (λ s t. (s ≡ far root) × (t ≡ step)) 0 [] [] nodes marks) (IsOpen n into root nodes marks ts) (λ w k.
+        let none : take w.depth ts ≡ [] = ap (λ d. take d ts) k.depth ∙ ap (λ l. take 0 l) empty in
+        let zeroth : w.depth ≡ 0 = k.depth in
+        record {
+          way = subst (λ l. IsWay n into root (l ++ taken w ∷ [])) (sym none) (way_first n into root (taken w) k.step.0);
+          within = omega arith;
+          number = k.number;
+          marked = k.marked;
+        }) m.added m.each);
+    stacked = subst AreStacked (sym m.opened) (stacked_same 0 m.added (each_as (IsNew (λ s t. (s ≡ far root) × (t ≡ step)) 0 [] [] nodes marks) (λ u. u.depth ≡ 0) (λ w k. k.depth) m.added m.each));
+    on = subst (λ l. Each (IsMarked nodes marks) (sides l)) (sym empty) tt;
+  }
+
+  -- the first side of a search is met where nothing has been
+  pub meets_begun : (root : T) (side : Side T) (step : Step) → side ≡ far root → {nodes nodes' : List T} {marks marks' : List Marks} {waiting waiting' : List (Waiting T)}
+      → nodes ≡ [] → marks ≡ [] → waiting ≡ [] → Meets (λ s t. (s ≡ side) × (t ≡ step)) 0 nodes marks waiting nodes' marks' waiting'
+      → Meets (λ s t. (s ≡ far root) × (t ≡ step)) 0 [] [] [] nodes' marks' waiting'
+  meets_begun root side step is {nodes} {nodes'} {marks} {marks'} {waiting} {waiting'} no_node no_mark no_one m =
+      meets_as (λ s t e. (e.0 ∙ is, e.1))
+      (subst (λ l. Meets (λ s t. (s ≡ side) × (t ≡ step)) 0 l [] [] nodes' marks' waiting') no_node
+      (subst (λ l. Meets (λ s t. (s ≡ side) × (t ≡ step)) 0 nodes l [] nodes' marks' waiting') no_mark
+      (subst (λ l. Meets (λ s t. (s ≡ side) × (t ≡ step)) 0 nodes marks l nodes' marks' waiting') no_one m)))
+
+  -- what holds of the side that is taken up next
+  next_open : {n : Shape T} {into : T → List (Edge T)} {root : T} {nodes : List T} {marks : List Marks} {before : List (Waiting T)} {ts : List (Taken T)}
+      → IsSearching n into root nodes marks before ts → (waiting : List (Waiting T)) (w : Waiting T) → before ≡ waiting ++ w ∷ [] → IsOpen n into root nodes marks ts w
+  next_open {n} {into} {root} {nodes} {marks} {before} {ts} s waiting w popped =
+      (each_right (IsOpen n into root nodes marks ts) waiting (w ∷ []) (subst (Each (IsOpen n into root nodes marks ts)) popped s.opens)).0
+
+  pub next_number : {n : Shape T} {into : T → List (Edge T)} {root : T} {nodes : List T} {marks : List Marks} {before : List (Waiting T)} {ts : List (Taken T)}
+      → IsSearching n into root nodes marks before ts → (waiting : List (Waiting T)) (w : Waiting T) → before ≡ waiting ++ w ∷ [] → At nodes w.number w.side.node
+  next_number s waiting w popped = (next_open s waiting w popped).number
+
+  -- the way to the side that is taken up next
+  pub next_way : {n : Shape T} {into : T → List (Edge T)} {root : T} {nodes : List T} {marks : List Marks} {before : List (Waiting T)} {ts : List (Taken T)}
+      → IsSearching n into root nodes marks before ts → (waiting : List (Waiting T)) (w : Waiting T) → before ≡ waiting ++ w ∷ []
+      → (ts' : List (Taken T)) → ts' ≡ take w.depth ts ++ record { side = w.side; step = w.step } ∷ [] → IsWay n into root ts'
+  next_way {n} {into} {root} s waiting w popped ts' is = subst (IsWay n into root) (sym is) (next_open s waiting w popped).way
+
+  pub last_side : (front ts' : List (Taken T)) (t : Taken T) → ts' ≡ front ++ t ∷ [] → At (sides ts') (length ts' - 1) t.side
+  last_side front ts' t is =
+      let place : length front ≡ length ts' - 1 = omega (arith, ap length is, length-append front (t ∷ [])) in
+      subst (λ l. At (sides l) (length ts' - 1) t.side) (sym is)
+      (subst (λ k. At (sides (front ++ t ∷ [])) k t.side) place
+      (subst (λ l. At l (length front) t.side) (sym (sides_join front (t ∷ [])))
+      (subst (λ k. At (sides front ++ t.side ∷ []) k t.side) (length-sides front) (at_after (sides front) [] t.side))))
+
+  -- one turn: a side is taken up, the way leads to it, and each side within a step of it is met
+  module _ (n : Shape T) (into : T → List (Edge T)) (root : T) (nodes : List T) (marks : List Marks) (before waiting : List (Waiting T)) (ts : List (Taken T)) (w : Waiting T)
+      (known : (v : T) → Each (λ e. Reaches n root e.from) (into v)) (s : IsSearching n into root nodes marks before ts) (popped : before ≡ waiting ++ w ∷ [])
+      (no_goal : IsGoal n w.side → ⊥) (nodes' : List T) (marks' : List Marks) (waiting' : List (Waiting T)) (ts' : List (Taken T)) (depth : ℕ)
+      (is : ts' ≡ take w.depth ts ++ record { side = w.side; step = w.step } ∷ []) (deep : depth ≡ length ts')
+      (m : Meets (λ q t. IsStep n (into w.side.node) w.side t q) depth nodes marks waiting nodes' marks' waiting')
+      (follows : Follows n (into w.side.node) (IsMarked nodes' marks') w.side) where
+    this : IsOpen n into root nodes marks ts w
+    this = next_open s waiting w popped
+
+    one_deeper : depth ≡ w.depth + 1
+    one_deeper =
+        let within : w.depth ≤ length ts = this.within in
+        omega (arith, deep, ap length is, length-append (take w.depth ts) (taken w ∷ []), length-take w.depth ts)
+
+    below : AreStacked waiting × Each (λ u. u.depth ≤ w.depth) waiting
+    below = stacked_last waiting w (subst AreStacked popped s.stacked)
+
+    kept_part : (d : ℕ) → d ≤ w.depth → take d ts' ≡ take d ts
+    kept_part d le =
+        let within : w.depth ≤ length ts = this.within in
+        let long : d ≤ length (take w.depth ts) = omega (arith, length-take w.depth ts) in
+        ap (take d) is ∙ take-append-le d (take w.depth ts) (taken w ∷ []) long ∙ take-take d w.depth ts le
+
+    on_way : Each (IsMarked nodes marks) (sides ts')
+    on_way =
+        let front : Each (IsMarked nodes marks) (sides (take w.depth ts)) =
+        each_left (IsMarked nodes marks) (sides (take w.depth ts)) (sides (drop_rest w.depth))
+        (subst (Each (IsMarked nodes marks)) (sym (ap sides (take-append-drop w.depth ts)) ∙ sides_join (take w.depth ts) (drop_rest w.depth)) s.on) in
+        subst (λ l. Each (IsMarked nodes marks) (sides l)) (sym is)
+        (subst (Each (IsMarked nodes marks)) (sym (sides_join (take w.depth ts) (taken w ∷ [])))
+        (each_join (IsMarked nodes marks) (sides (take w.depth ts)) (w.side ∷ []) front (this.marked, tt)))
+      where
+        drop_rest : ℕ → List (Taken T)
+        drop_rest d = drop d ts
+
+    old_open : (u : Waiting T) → u.depth ≤ w.depth → IsOpen n into root nodes marks ts u → IsOpen n into root nodes' marks' ts' u
+    old_open u le o = record {
+      way = subst (λ l. IsWay n into root (l ++ taken u ∷ [])) (sym (kept_part u.depth le)) o.way;
+      within = omega (arith, one_deeper, deep);
+      number = m.longer u.number u.side.node o.number;
+      marked = m.stays u.side o.marked;
+    }
+
+    new_open : (u : Waiting T) → IsNew (λ q t. IsStep n (into w.side.node) w.side t q) depth nodes marks nodes' marks' u → IsOpen n into root nodes' marks' ts' u
+    new_open u k =
+        let whole : take u.depth ts' ≡ ts' = take_all u.depth ts' (omega (arith, k.depth, deep)) in
+        let fresh : Has (sides ts') u.side → ⊥ = λ h. k.fresh (each_has (IsMarked nodes marks) (sides ts') on_way u.side h) in
+        record {
+          way = subst (λ l. IsWay n into root (l ++ taken u ∷ [])) (sym (whole ∙ is))
+              (way_on n into root (take w.depth ts) (taken w) (taken u) this.way k.step (subst (λ l. Has (sides l) u.side → ⊥) is fresh));
+          within = omega (arith, k.depth, deep);
+          number = k.number;
+          marked = k.marked;
+        }
+
+    pub searching_on : IsSearching n into root nodes' marks' waiting' ts'
+    searching_on = record {
+      numbered = m.numbered;
+      start = m.stays (far root) s.start;
+      reached = each_from (Reaches n root) nodes' (λ v h. elim (m.named v h) [
+        | inl old ↦ each_has (Reaches n root) nodes s.reached v old
+        | inr new ↦
+            let from : Reaches n root w.side.node = each_has (Reaches n root) nodes s.reached w.side.node (at_has nodes w.number w.side.node this.number) in
+            subst (Reaches n root) new.3 (reaches_step n into root known w.side new.1 new.0 from new.2)
+      ]);
+      done = λ p h. elim (m.grown p h) [
+        | inl old ↦ elim (s.done p old) [
+          | inl waits ↦ elim (has_either (sides_waiting waiting) (w.side ∷ []) p (subst (λ l. Has l p) (ap sides_waiting popped ∙ waiting_join waiting (w ∷ [])) waits)) [
+            | inl still ↦ inl (subst (λ l. Has l p) (sym (ap sides_waiting m.opened ∙ waiting_join waiting m.added)) (has_left (sides_waiting waiting) (sides_waiting m.added) p still))
+            | inr now ↦ elim now [
+              | inl e ↦ inr (subst (λ q. Follows n (into q.node) (IsMarked nodes' marks') q × (IsGoal n q → ⊥)) e (follows, no_goal))
+              | inr none ↦ absurd none
+            ]
+          ]
+          | inr over ↦ inr ((λ t q k. m.stays q (over.0 t q k)), over.1)
+        ]
+        | inr new ↦ inl (subst (λ l. Has l p) (sym (ap sides_waiting m.opened ∙ waiting_join waiting m.added)) (has_right (sides_waiting waiting) (sides_waiting m.added) p new))
+      ];
+      opens = subst (Each (IsOpen n into root nodes' marks' ts')) (sym m.opened)
+          (each_join (IsOpen n into root nodes' marks' ts') waiting m.added
+          (each_from (IsOpen n into root nodes' marks' ts') waiting (λ u h.
+          old_open u (each_has (λ x. x.depth ≤ w.depth) waiting below.1 u h)
+          (each_has (IsOpen n into root nodes marks ts) waiting (each_left (IsOpen n into root nodes marks ts) waiting (w ∷ []) (subst (Each (IsOpen n into root nodes marks ts)) popped s.opens)) u h)))
+          (each_as (IsNew (λ q t. IsStep n (into w.side.node) w.side t q) depth nodes marks nodes' marks') (IsOpen n into root nodes' marks' ts') new_open m.added m.each));
+      stacked = subst AreStacked (sym m.opened)
+          (stacked_join depth waiting m.added below.0
+          (each_as (λ u. u.depth ≤ w.depth) (λ u. u.depth ≤ depth) (λ u le. omega (arith, one_deeper)) waiting below.1)
+          (each_as (IsNew (λ q t. IsStep n (into w.side.node) w.side t q) depth nodes marks nodes' marks') (λ u. u.depth ≡ depth) (λ u k. k.depth) m.added m.each));
+      on = each_as (IsMarked nodes marks) (IsMarked nodes' marks') m.stays (sides ts') on_way;
+    }
+
+  pub exhausted : (n : Shape T) (into : T → List (Edge T)) (root : T) (nodes : List T) (marks : List Marks) (waiting : List (Waiting T)) (ts : List (Taken T))
+      → IsSearching n into root nodes marks waiting ts → length waiting ≡ 0 → IsExhausted n into root nodes marks
+  exhausted n into root nodes marks waiting ts s empty = record {
+    numbered = s.numbered;
+    start = s.start;
+    out = λ p h. elim (s.done p h) [ inl waits ↦ absurd (none waiting empty p waits) | inr over ↦ over ];
+  }
+    where
+      none : (ws : List (Waiting T)) → length ws ≡ 0 → (p : Side T) → Has (sides_waiting ws) p → ⊥
+      none [] e p h = h
+      none (w ∷ ws) e p h = let c : ⊥ = omega arith in c
+
+  -- a turn takes up one side that waits, and each side that is met sets a mark and waits
+  pub searching_falls : {P : Side T → Step → Type 0} {depth : ℕ} {nodes nodes' : List T} {marks marks' : List Marks} {waiting waiting' : List (Waiting T)} (most : ℕ) (before : List (Waiting T)) (w : Waiting T)
+      → Meets P depth nodes marks waiting nodes' marks' waiting' → before ≡ waiting ++ w ∷ [] → count_of marks' ≤ most
+      → 2 * (most - count_of marks') + length waiting' < 2 * (most - count_of marks) + length before
+  searching_falls {P} {depth} {nodes} {nodes'} {marks} {marks'} {waiting} {waiting'} most before w m popped few =
+      let count : count_of marks' ≡ count_of marks + length m.added = m.count in
+      let opened : length waiting' ≡ length waiting + length m.added = ap length m.opened ∙ length-append waiting m.added in
+      let one : length before ≡ length waiting + 1 = ap length popped ∙ length-append waiting (w ∷ []) in
       omega arith
 
 -- what holds where a result is `Ok`

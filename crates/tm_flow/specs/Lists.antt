@@ -1,5 +1,5 @@
 -- Words on lists by recursion: membership, what holds of each item, items that are all different, and places.
-use Rattle.std.specs.Prelude.{◌≡◌, ◌⊎◌, ℕ, ◌+◌, zero, suc, List, [], ◌∷◌, map, Vec}
+use Rattle.std.specs.Prelude.{◌≡◌, ◌⊎◌, ℕ, zero, suc, List, [], ◌∷◌, map, Vec}
 
 -- x is one of the items
 abbrev pub Has : {X : Type 0} → List X → X → Type 0
@@ -21,11 +21,6 @@ abbrev pub At : {X : Type 0} → List X → ℕ → X → Type 0
 At [] i x = ⊥
 At (y ∷ ys) zero x = y ≡ x
 At (y ∷ ys) (suc i) x = At ys i x
-
--- numbers from `start` on, one for each item
-abbrev pub numbers_from : {X : Type 0} → ℕ → List X → List ℕ
-numbers_from start [] = []
-numbers_from start (x ∷ xs) = start ∷ numbers_from (start + 1) xs
 
 -- the lists that vectors hold
 abbrev pub lists_in : {X A : Type 0} → List (Vec X A) → List (List X)

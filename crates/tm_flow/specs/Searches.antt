@@ -1,20 +1,45 @@
--- Searches over the sides of nodes: which steps there are, and what a search knows of the sides that it has met.
-use Rattle.std.specs.Prelude.{◌≡◌, ℕ, ◌<◌, ◌⊎◌, Bool, true, false, cond, ◌&&◌, List, [], ◌∷◌, ◌++◌, length, Option, Some, None, is_some, option_to_list}
-use Rattle.std.specs.Map.{lookup}
-use mathlib.Core.Bool.{beq}
-use Rattle.tm_flow.specs.Lists.{Has, Each, AreApart, At, numbers_from}
+-- Searches over the sides of nodes: which steps there are, what a search knows of the sides that it has met, and the way it stands on.
+use Rattle.std.specs.Prelude.{◌≡◌, ℕ, ◌+◌, ◌-◌, ◌<◌, ◌⊎◌, Bool, true, false, cond, List, [], ◌∷◌, ◌++◌, length, Option, Some, None, option_to_list, position, slice_index_or}
+use Rattle.std.specs.List.{sum_by}
+use Rattle.tm_flow.specs.Lists.{Has, Each, AreApart, At}
 use Rattle.tm_flow.specs.Nets.{Shape}
 use Rattle.tm_flow.specs.Flows.{InFlow, BeginsWith, TakesBack, IsFlow, all_edges_to}
 use Rattle.tm_flow.specs.declared.flow.Edge.{Edge}
-use Rattle.tm_flow.specs.declared.search.Side.{Side}
-use Rattle.tm_flow.specs.declared.search.Came.{Came}
+use Rattle.tm_flow.specs.declared.search.Marks.{Marks}
 use Rattle.tm_flow.specs.declared.search.Search.{Search}
+use Rattle.tm_flow.specs.declared.search.Searched.{Searched}
+use Rattle.tm_flow.specs.declared.search.Searched.TheVariants.{Walk, Nowhere}
+use Rattle.tm_flow.specs.declared.search.Side.{Side}
 use Rattle.tm_flow.specs.declared.search.Step.{Step}
 use Rattle.tm_flow.specs.declared.search.Step.TheVariants.{Read, Cross, Return, Back}
+use Rattle.tm_flow.specs.declared.search.Taken.{Taken}
+use Rattle.tm_flow.specs.declared.search.Waiting.{Waiting}
 
--- a side with how it was met
-abbrev pub Entry : Type 0 → Type 0
-Entry T = Side T × Came
+-- the mark of one side
+abbrev pub mark_of : Marks → Bool → Bool
+mark_of m true = m.far
+mark_of m false = m.near
+
+-- the marks with that of one side set
+abbrev pub with_mark : Marks → Bool → Marks
+with_mark m true = record { near = m.near; far = true }
+with_mark m false = record { near = true; far = m.far }
+
+abbrev pub no_marks : Marks
+no_marks = record { near = false; far = false }
+
+-- how many marks of a node are set
+abbrev pub marks_in : Marks → ℕ
+marks_in m = cond m.near 1 0 + cond m.far 1 0
+
+-- how many marks are set
+abbrev pub count_of : List Marks → ℕ
+count_of ms = sum_by marks_in ms
+
+-- the mark of the far side under a number, if there is one
+abbrev pub far_under : List Marks → Option ℕ → Bool
+far_under marks None = false
+far_under marks (Some i) = (slice_index_or marks i no_marks).far
 
 module _ {T : Type 0} where
   abbrev pub near : T → Side T
@@ -23,13 +48,15 @@ module _ {T : Type 0} where
   abbrev pub far : T → Side T
   far v = record { node = v; is_far = true }
 
-  -- the derived equality of sides
-  abbrev pub side_eq : (T → T → Bool) → Side T → Side T → Bool
-  side_eq eq p q = eq p.node q.node && beq p.is_far q.is_far
-
-  abbrev pub sides : List (Entry T) → List (Side T)
+  -- the sides of a way
+  abbrev pub sides : List (Taken T) → List (Side T)
   sides [] = []
-  sides (e ∷ es) = e.0 ∷ sides es
+  sides (t ∷ ts) = t.side ∷ sides ts
+
+  -- the sides whose steps are still to be taken
+  abbrev pub sides_waiting : List (Waiting T) → List (Side T)
+  sides_waiting [] = []
+  sides_waiting (w ∷ ws) = w.side ∷ sides_waiting ws
 
   -- the step reads from v, to the near side of what v reads
   abbrev pub IsRead : Shape T → T → Step → Side T → Type 0
@@ -48,45 +75,84 @@ module _ {T : Type 0} where
   IsStep n edges p Return q = (p.is_far ≡ true) × (q ≡ near p.node)
   IsStep n edges p (Back i) q = (p.is_far ≡ false) × IsBack edges (Back i) q
 
-  -- the side was met by a step from p, whose number is `at`
-  abbrev pub IsStepFrom : Shape T → List (Edge T) → ℕ → Side T → Side T → Came → Type 0
-  IsStepFrom n edges at p q came = (came.parent ≡ at) × IsStep n edges p came.step q
-
   -- each side that a step leads to from p has been met
-  abbrev pub Follows : Shape T → List (Edge T) → List (Entry T) → Side T → Type 0
-  Follows n edges es p = (step : Step) (q : Side T) → IsStep n edges p step q → Has (sides es) q
+  abbrev pub Follows : Shape T → List (Edge T) → (Side T → Type 0) → Side T → Type 0
+  Follows n edges Met p = (step : Step) (q : Side T) → IsStep n edges p step q → Met q
 
   -- the far side of an end
   abbrev pub IsGoal : Shape T → Side T → Type 0
   IsGoal n p = (p.is_far ≡ true) × (n.is_end p.node ≡ true)
 
-  -- each side was met by a step from an earlier one, the first is the far side of the root, and none was met
-  -- twice; `into` gives the edges of the flow that come to a node
-  pub record IsSearch (n : Shape T) (into : T → List (Edge T)) (root : T) (es : List (Entry T)) : Type 0 where
-    pub first : At (sides es) 0 (far root)
-    pub came : (j : ℕ) (e : Entry T) → At es j e → 0 < j
-        → (p : Side T) × (e.1.parent < j) × At (sides es) e.1.parent p × IsStep n (into p.node) p e.1.step e.0
-    pub apart : AreApart (sides es)
+  -- steps lead from the far side of the root from side to side, and come to none twice; `into` gives the edges of the
+  -- flow that come to a node
+  pub record IsWay (n : Shape T) (into : T → List (Edge T)) (root : T) (ts : List (Taken T)) : Type 0 where
+    pub first : At (sides ts) 0 (far root)
+    pub came : (j : ℕ) (t : Taken T) → At ts j t → 0 < j → (p : Side T) × At (sides ts) (j - 1) p × IsStep n (into p.node) p t.step t.side
+    pub apart : AreApart (sides ts)
 
-  -- sides with the property were met, each once and none met before, and are open
-  pub record Meets (P : Side T → Came → Type 0) (old : List (Entry T)) (open_old : List ℕ) (new : List (Entry T)) (open_new : List ℕ) : Type 0 where
-    pub added : List (Entry T)
-    pub entries : new ≡ old ++ added
-    pub opened : open_new ≡ open_old ++ numbers_from (length old) added
-    pub each : Each (λ e. P e.0 e.1) added
-    pub apart : AreApart (sides old) → AreApart (sides new)
+  -- the way comes to the far side of an end
+  abbrev pub EndsAt : Shape T → List (Taken T) → Type 0
+  EndsAt n ts = (p : Side T) × At (sides ts) (length ts - 1) p × IsGoal n p
+
+  -- the nodes are numbered by their places, and each has its marks
+  pub record IsNumbered (nodes : List T) (marks : List Marks) : Type 0 where
+    pub apart : AreApart nodes
+    pub even : length marks ≡ length nodes
+
+  -- the side has been met: its mark is set, under the number of its node
+  abbrev pub IsMarked : List T → List Marks → Side T → Type 0
+  IsMarked nodes marks p = (i : ℕ) × (m : Marks) × At nodes i p.node × At marks i m × (mark_of m p.is_far ≡ true)
+
+  -- v has the number, the one that it had or the next one, and no mark has changed
+  pub record Names (v : T) (number : ℕ) (nodes : List T) (marks : List Marks) (nodes' : List T) (marks' : List Marks) : Type 0 where
+    pub numbered : IsNumbered nodes' marks'
+    pub here : At nodes' number v
+    pub longer : (i : ℕ) (u : T) → At nodes i u → At nodes' i u
+    pub named : (u : T) → Has nodes' u → Has nodes u ⊎ (v ≡ u)
+    pub stays : (p : Side T) → IsMarked nodes marks p → IsMarked nodes' marks' p
+    pub only : (p : Side T) → IsMarked nodes' marks' p → IsMarked nodes marks p
+    pub count : count_of marks' ≡ count_of marks
+
+  -- a side that waits: it was met by such a step from the side at that depth of the way, and not before
+  pub record IsNew (P : Side T → Step → Type 0) (at : ℕ) (nodes : List T) (marks : List Marks) (nodes' : List T) (marks' : List Marks) (w : Waiting T) : Type 0 where
+    pub step : P w.side w.step
+    pub depth : w.depth ≡ at
+    pub number : At nodes' w.number w.side.node
+    pub marked : IsMarked nodes' marks' w.side
+    pub fresh : IsMarked nodes marks w.side → ⊥
+
+  -- sides with the property were met, none of them before, and wait
+  pub record Meets (P : Side T → Step → Type 0) (depth : ℕ) (nodes : List T) (marks : List Marks) (waiting : List (Waiting T))
+      (nodes' : List T) (marks' : List Marks) (waiting' : List (Waiting T)) : Type 0 where
+    pub numbered : IsNumbered nodes' marks'
+    pub added : List (Waiting T)
+    pub opened : waiting' ≡ waiting ++ added
+    pub each : Each (IsNew P depth nodes marks nodes' marks') added
+    pub grown : (p : Side T) → IsMarked nodes' marks' p → IsMarked nodes marks p ⊎ Has (sides_waiting added) p
+    pub stays : (p : Side T) → IsMarked nodes marks p → IsMarked nodes' marks' p
+    pub longer : (i : ℕ) (u : T) → At nodes i u → At nodes' i u
+    pub named : (u : T) → Has nodes' u → Has nodes u ⊎ ((s : Side T) × (step : Step) × P s step × (s.node ≡ u))
+    pub count : count_of marks' ≡ count_of marks + length added
 
   -- the same of a search under way
-  abbrev pub Grows : (Side T → Came → Type 0) → Search T → Search T → Type 0
-  Grows P old new = Meets P old.met.entries old.pending.items new.met.entries new.pending.items
+  abbrev pub Grows : (Side T → Step → Type 0) → ℕ → Search T → Search T → Type 0
+  Grows P depth old new =
+      Meets P depth old.met.nodes.keys old.met.marks.items old.pending.items new.met.nodes.keys new.met.marks.items new.pending.items
 
   -- no step leads out of the sides that have been met, and none of them is the far side of an end
-  abbrev pub IsSearchedOut : Shape T → (T → List (Edge T)) → List (Entry T) → Type 0
-  IsSearchedOut n into es = (p : Side T) → Has (sides es) p → Follows n (into p.node) es p × (IsGoal n p → ⊥)
+  abbrev pub IsSearchedOut : Shape T → (T → List (Edge T)) → (Side T → Type 0) → Type 0
+  IsSearchedOut n into Met = (p : Side T) → Met p → Follows n (into p.node) Met p × (IsGoal n p → ⊥)
 
-  -- the side with the number is the far side of an end
-  abbrev pub EndsAt : Shape T → List (Entry T) → ℕ → Type 0
-  EndsAt n es at = (p : Side T) × At (sides es) at p × IsGoal n p
+  -- the far side of the root was met, and each side that a step leads to from one that was met; no end is among them
+  pub record IsExhausted (n : Shape T) (into : T → List (Edge T)) (root : T) (nodes : List T) (marks : List Marks) : Type 0 where
+    pub numbered : IsNumbered nodes marks
+    pub start : IsMarked nodes marks (far root)
+    pub out : IsSearchedOut n into (IsMarked nodes marks)
+
+  -- a way to the far side of an end, or all that can be met and no end among it
+  abbrev pub IsOutcome : Shape T → (T → List (Edge T)) → T → Searched T → Type 0
+  IsOutcome n into root (Walk way) = IsWay n into root way.items × EndsAt n way.items
+  IsOutcome n into root (Nowhere met) = IsExhausted n into root met.nodes.keys met.marks.items
 
   -- the step from p to q can be undone where the edge that it went back over is the first one in hand, or on a walk
   abbrev pub CanUndo : Side T → Step → Side T → List (List (Edge T)) → List (Edge T) → Type 0
@@ -102,21 +168,21 @@ module _ {T : Type 0} where
   IsUndone p (Back i) q ws t ws' t' = TakesBack (record { from = q.node; index = i; to = p.node }) ws t ws' t'
 
   -- the search that found an end went over the flow as it is
-  pub record CanGrow (n : Shape T) (eq : T → T → Bool) (root : T) (ws : List (List (Edge T))) (es : List (Entry T)) (end : ℕ) : Type 0 where
+  pub record CanGrow (n : Shape T) (eq : T → T → Bool) (root : T) (ws : List (List (Edge T))) (ts : List (Taken T)) : Type 0 where
     pub flow : IsFlow n eq root ws
-    pub search : IsSearch n (λ v. all_edges_to eq v ws) root es
-    pub ends : EndsAt n es end
+    pub way : IsWay n (λ v. all_edges_to eq v ws) root ts
+    pub ends : EndsAt n ts
 
-  -- whether the side has been met
-  abbrev pub is_met : (T → T → Bool) → List (Entry T) → Side T → Bool
-  is_met eq es p = is_some (lookup (side_eq eq p) es)
+  -- whether the far side of the node has been met
+  abbrev pub is_far_met : (T → T → Bool) → List T → List Marks → T → Bool
+  is_far_met eq nodes marks v = far_under marks (position (eq v) nodes)
 
   -- the first node of the walk whose far side has not been met
-  abbrev pub first_unmet : (T → T → Bool) → List (Entry T) → List (Edge T) → Option T
-  first_unmet eq es [] = None
-  first_unmet eq es (e ∷ w) = cond (is_met eq es (far e.to)) (first_unmet eq es w) (Some e.to)
+  abbrev pub first_unmet : (T → Bool) → List (Edge T) → Option T
+  first_unmet met [] = None
+  first_unmet met (e ∷ w) = cond (met e.to) (first_unmet met w) (Some e.to)
 
   -- these nodes of the walks, one for each walk that has one
-  abbrev pub all_first_unmet : (T → T → Bool) → List (Entry T) → List (List (Edge T)) → List T
-  all_first_unmet eq es [] = []
-  all_first_unmet eq es (w ∷ ws) = option_to_list (first_unmet eq es w) ++ all_first_unmet eq es ws
+  abbrev pub all_first_unmet : (T → Bool) → List (List (Edge T)) → List T
+  all_first_unmet met [] = []
+  all_first_unmet met (w ∷ ws) = option_to_list (first_unmet met w) ++ all_first_unmet met ws

@@ -5,14 +5,14 @@ ghost use Rattle.tm_flow.specs.Cuts.{AreFlow, IsBarrier, IsCut};
 ghost use Rattle.tm_flow.specs.Flows.{IsFlow, edges_along, indices_of};
 ghost use Rattle.tm_flow.specs.Lists.{At, Each, lists_in};
 ghost use Rattle.tm_flow.specs.Nets.{IsWalk};
-ghost use Rattle.tm_flow.specs.Searches.{first_unmet, all_first_unmet};
+ghost use Rattle.tm_flow.specs.Searches.{IsNumbered, is_far_met, first_unmet, all_first_unmet};
 ghost use Rattle.tm_flow.specs.declared.flow.Edge.{Edge};
 ghost use Rattle.tm_flow.specs.Founds.{IsAnswer};
 
 use crate::flow::{Edge, arrivals_of};
 use crate::grow::augment;
 use crate::net::{Found, LazyNet};
-use crate::search::{Met, Side, find_walk};
+use crate::search::{Met, Searched, find_walk, is_far_met};
 use std::alloc::Global;
 use tm_bits::NoMemory;
 
@@ -179,13 +179,12 @@ fn grow<N: LazyNet>(
         (λ nodes. IsCut (N.shape net.now) root (length walks.old.items) nodes.items)) }
 {
     let arrivals = arrivals_of::<N>(alloc, walks.as_slice())?;
-    let searched = find_walk(alloc, net, &arrivals, root)?;
-    match searched.end {
-        Some(end) => {
-            augment(alloc, net, walks, &searched.met, end)?;
+    match find_walk(alloc, net, &arrivals, root)? {
+        Searched::Walk(way) => {
+            augment(alloc, net, walks, way.as_slice())?;
             Ok(None)
         }
-        None => Ok(Some(cut_of::<N>(alloc, walks.as_slice(), &searched.met)?)),
+        Searched::Nowhere(met) => Ok(Some(cut_of::<N>(alloc, walks.as_slice(), &met)?)),
     }
 }
 
@@ -195,8 +194,9 @@ fn cut_of<N: LazyNet>(
     walks: &[Vec<Edge<N::Node>>],
     met: &Met<N::Node>,
 ) -> Result<Vec<N::Node>, NoMemory>
-    ensures { IfOk result (λ nodes. nodes.items ≡ all_first_unmet N.Node.eq met.now.entries
-        (lists_in walks.now)) }
+    requires { IsNumbered met.now.nodes.keys met.now.marks.items }
+    ensures { IfOk result (λ nodes. nodes.items ≡ all_first_unmet
+        (is_far_met N.Node.eq met.now.nodes.keys met.now.marks.items) (lists_in walks.now)) }
 {
     let mut nodes = Vec::with_capacity(alloc, walks.len())?;
     for walk in walks {
@@ -210,8 +210,9 @@ fn push_first<N: LazyNet>(
     walk: &[Edge<N::Node>],
     met: &Met<N::Node>,
 ) -> Result<(), NoMemory>
-    ensures { OnOk result (nodes.new.items ≡ nodes.old.items ++ option_to_list
-        (first_unmet N.Node.eq met.now.entries walk.now)) }
+    requires { IsNumbered met.now.nodes.keys met.now.marks.items }
+    ensures { OnOk result (nodes.new.items ≡ nodes.old.items ++ option_to_list (first_unmet
+        (is_far_met N.Node.eq met.now.nodes.keys met.now.marks.items) walk.now)) }
 {
     if let Some(node) = first_on_walk::<N>(walk, met) {
         nodes.push(node)?;
@@ -220,10 +221,12 @@ fn push_first<N: LazyNet>(
 }
 
 fn first_on_walk<N: LazyNet>(walk: &[Edge<N::Node>], met: &Met<N::Node>) -> Option<N::Node>
-    ensures { result ≡ first_unmet N.Node.eq met.now.entries walk.now }
+    requires { IsNumbered met.now.nodes.keys met.now.marks.items }
+    ensures { result ≡ first_unmet
+        (is_far_met N.Node.eq met.now.nodes.keys met.now.marks.items) walk.now }
 {
     for edge in walk {
-        if !met.contains_key(&Side::far(edge.to)) {
+        if !is_far_met::<N>(met, edge.to) {
             return Some(edge.to);
         }
     }

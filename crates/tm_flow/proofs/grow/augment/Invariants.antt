@@ -5,8 +5,8 @@ use Rattle.tm_flow.proofs.grow.augment.Given as goal
 
 abbrev pub invariant-loop-at : goal.invariant-loop-at
 invariant-loop-at g l = record {
-  unwinds : (root : g.row.N-Node.Denot) → CanGrow (g.N.LazyNet.shape l.net) g.N.Node.PartialEq.eq root (map (λ w. w.items) l.fn.walks.items) l.met.entries l.fn.end
-      → Unwinds (g.N.LazyNet.shape l.net) g.N.Node.PartialEq.eq g.met.N.LazyNet.same_if_equal root l.met.entries l.at (map (λ w. w.items) l.walks.items) (reverse l.rest.items);
+  unwinds : (root : g.row.N-Node.Denot) → CanGrow (g.N.LazyNet.shape l.net) g.N.Node.PartialEq.eq root (map (λ w. w.items) l.fn.walks.items) l.way
+      → Unwinds (g.N.LazyNet.shape l.net) g.N.Node.PartialEq.eq g.met.N.LazyNet.same_if_equal root l.way l.at (map (λ w. w.items) l.walks.items) (reverse l.rest.items);
   len : length l.walks.items ≡ length l.fn.walks.items;
 }
 
