@@ -1,0 +1,15 @@
+pub mod Rounds
+pub mod Values
+pub mod Whole
+pub mod Literals
+pub mod Numbers
+pub mod Runs
+pub mod Adding
+pub mod Growing
+pub mod Places
+pub mod Shapes
+pub mod Spelling
+pub mod Ranks
+pub mod Tracing
+pub mod Alike
+pub mod Soundness

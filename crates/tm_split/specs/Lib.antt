@@ -1,0 +1,5 @@
+pub mod Pieces
+pub mod Names
+pub mod Subject
+pub mod Counts
+pub mod Making

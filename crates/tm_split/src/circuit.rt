@@ -1,0 +1,72 @@
+// The subject circuit.
+
+ghost use Rattle.std.specs.Prelude.{◌≡◌, ◌↔◌, ◌<◌, ◌≤◌, length, Err, IfOk};
+ghost use Rattle.tm_circuit.specs.Plain.{widest};
+ghost use Rattle.tm_circuit.specs.Sound.{IsSound};
+ghost use Rattle.tm_circuit.specs.Same.{IsSame};
+ghost use Rattle.tm_split.specs.Names.{HasNamesWithin};
+ghost use Rattle.tm_split.specs.Subject.{subject_of};
+
+use crate::count::{MOST_SIGNALS, count, numbers};
+use crate::gates::Plan;
+use crate::names::joiner;
+use crate::parts::split_parts;
+use std::alloc::Global;
+use thiserror::Error;
+use tm_bits::{MOST_K, NoMemory};
+use tm_circuit::{Circuit, CircuitFault};
+
+/// Why there is no subject circuit of a circuit.
+#[derive(Clone, Copy, Debug, PartialEq, Eq, Error)]
+pub enum SplitFault {
+    /// It would have more than 100,000 signals.
+    #[error("the subject circuit has more than 100,000 signals")]
+    TooManySignals,
+    /// The allocator refused.
+    #[error("no memory")]
+    NoMemory,
+}
+
+impl From<NoMemory> for SplitFault {
+    ghost use Rattle.std.specs.Prelude.{◌≡◌};
+    ghost use Rattle.tm_split.specs.declared.circuit.SplitFault.TheVariants.{NoMemory as WantOfMemory};
+
+    ghost from_gives = { λ _ fault. fault ≡ WantOfMemory };
+
+    fn from(_refused: NoMemory) -> Self {
+        SplitFault::NoMemory
+    }
+}
+
+/// The subject circuit for `k`: each gate with more than `k` pins is replaced by gates of at most two pins, in its place and the last
+/// under its name; all else stays. It is refused exactly where it would have more than 100,000 signals, before it is built.
+pub fn subject(alloc: Global, circuit: &Circuit, k: u8) -> Result<Circuit, SplitFault>
+    requires least { 2 ≤ k }
+    requires most { k ≤ MOST_K }
+    requires names { HasNamesWithin 255 circuit.now }
+    ensures subject { IfOk result (λ subject. subject ≡ subject_of k circuit.now) }
+    ensures same { IfOk result (λ subject. IsSame circuit.now subject) }
+    ensures narrow { IfOk result (λ subject. widest subject.drives ≤ k) }
+    ensures few { IfOk result (λ subject. length subject.drives ≤ MOST_SIGNALS) }
+    ensures names { IfOk result (λ subject. HasNamesWithin 517 subject) }
+    ensures sound { IfOk result IsSound }
+    ensures too_many { (result ≡ Err SplitFault.TooManySignals) ↔ (MOST_SIGNALS < length (subject_of k circuit.now).drives) }
+{
+    let most = k as usize;
+    if count(circuit, most) > MOST_SIGNALS {
+        return Err(SplitFault::TooManySignals);
+    }
+    let plan = Plan {
+        numbers: numbers(alloc, circuit, most)?,
+        joiner: joiner(alloc, circuit)?,
+        most,
+    };
+    let parts = split_parts(alloc, circuit, &plan)?;
+    match Circuit::build(alloc, parts) {
+        Ok(subject) => Ok(subject),
+        Err(fault) => match fault {
+            CircuitFault::NoMemory => Err(SplitFault::NoMemory),
+            _ => unreachable!(),
+        },
+    }
+}

@@ -1,0 +1,17 @@
+pub mod ListLemmas
+pub mod ReadLemmas
+pub mod CoverLemmas
+pub mod ChainLemmas
+pub mod LagLemmas
+pub mod FaultLemmas
+pub mod JudgeLemmas
+pub mod OwnLemmas
+pub mod DepthLemmas
+pub mod SearchLemmas
+pub mod CountLemmas
+pub mod EachLemmas
+pub mod LookupLemmas
+pub mod AscentLemmas
+pub mod VerdictLemmas
+pub mod PlaceLemmas
+pub mod TurnLemmas

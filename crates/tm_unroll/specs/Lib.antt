@@ -1,0 +1,11 @@
+pub mod Nodes
+pub mod Walks
+pub mod Mappings
+pub mod Faults
+pub mod Chains
+pub mod Falls
+pub mod Lags
+pub mod Own
+pub mod Lookups
+pub mod Searches
+pub mod Depths
