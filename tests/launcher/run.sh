@@ -32,6 +32,16 @@ said 3 traffic_light "period 1 tables 5 registers 2"
 
 expect "text of toggle" "$(grep -v '^#' examples/toggle.blif | sed 's/^10 1$/x/; s/^01 1$/10 1/; s/^x$/01 1/')" "$(cat "$folder/toggle.blif")"
 
+printf '1\n1\n0\n1\n' >"$folder/vectors"
+expect "line of sim" "steps 4" "$(./turbomap sim examples/toggle.blif "$folder/vectors" "$folder/rows")"
+expect "rows of sim" "0 1 0 0" "$(tr '\n' ' ' <"$folder/rows" | sed 's/ $//')"
+expect "report of toggle" "model toggle
+inputs 1 outputs 1 latches 1 gates 1
+widest 2
+period 1
+chain d
+slack d 0" "$(./turbomap show examples/toggle.blif)"
+
 # File names are those of the caller's folder.
 here=$PWD
 cp examples/toggle.blif "$folder/in.blif"
@@ -42,5 +52,5 @@ expect "status of a missing file" 3 $?
 expect "line of a missing file" "cannot read $folder/missing.blif" "$(cat "$folder/said")"
 [ ! -e "$folder/none.blif" ] || { echo "launcher: a file was written"; failed=1; }
 
-[ "$failed" -eq 0 ] && echo "launcher: 9 checks passed"
+[ "$failed" -eq 0 ] && echo "launcher: 12 checks passed"
 exit "$failed"

@@ -1,5 +1,10 @@
+mod FileRuns
 mod Held
 mod Names
 mod Runs
+mod ShowRuns
+mod ShowStatuses
+mod SimRuns
+mod SimStatuses
+mod Simulations
 mod Statuses
-mod Widest

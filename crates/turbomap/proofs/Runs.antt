@@ -1,5 +1,5 @@
 -- From the parts of a run to the run.
-use Rattle.std.proofs.Common.{◌≡◌, ◌≤◌, ◌⊎◌, inl, inr, ℕ, List, Option, Result, Ok, Err, IfOk, IfErr, length, subst, arith}
+use Rattle.std.proofs.Common.{◌≡◌, ◌∙◌, ap, sym, ◌≤◌, ◌⊎◌, inl, inr, ℕ, List, Option, Result, Ok, Err, IfOk, IfErr, length, subst, arith}
 use Rattle.std.specs.Prelude.{string_bytes}
 use Rattle.std.proofs.lemmas.Result.{IfOk-weaker}
 use Rattle.tm_store.specs.Faults.{Rose}
@@ -12,17 +12,22 @@ use Rattle.turbomap.specs.declared.prepare.Ready.{Ready}
 use Rattle.turbomap.specs.declared.status.Status.{Status}
 use Rattle.turbomap.specs.declared.status.Status.TheVariants as status
 use Rattle.turbomap.specs.declared.text.TheConstants.{SOURCE_BYTES}
-use Rattle.turbomap.specs.Map.{Maps, fault, wide}
-use Rattle.turbomap.specs.Outcome.{Stored, Spoken, Holds, LosesOnly, Writes, Says}
+use Rattle.turbomap.specs.Kind.{kind_name}
+use Rattle.turbomap.specs.Line.{fault_line}
+use Rattle.turbomap.specs.Map.{Maps}
+use Rattle.turbomap.specs.Outcome.{Stored, Spoken, Holds, LosesOnly, Writes, Says, FailsToWrite, FailsToSay}
 use Rattle.turbomap.specs.Run.{IsAccepted, IsRefusedFor, IsMapRun, MapsFile}
 use Rattle.turbomap.specs.Mapped.{IsMapFault}
-use Rattle.turbomap.specs.Prepared.{SaysFault, IsBlame, IsMade, IsRefusedText, IsPrepared, IsRefusal, IsDelivered, FailsToWrite, FailsToSay}
+use Rattle.turbomap.specs.Prepared.{SaysFault, IsBlame, IsMade, IsRefusedText, IsPrepared, IsRefusal, IsDelivered}
 use Rattle.turbomap.proofs.Held.{holds_of}
 
 -- a line that says the fault of a text says why the text is refused
 pub blamed_text : (k : ℕ) (name text said : List ℕ) (why : MapFault) → IsMapFault k text why → SaysFault name why said → IsBlame k name text said
-blamed_text k name text said (map_fault.Text line kind) blamed says = record { blame = fault line kind; blamed = blamed; line_is = says }
-blamed_text k name text said map_fault.Wide blamed says = record { blame = wide; blamed = blamed; line_is = says }
+blamed_text k name text said (map_fault.Text line kind) blamed says = record {
+  blame = blamed.blame;
+  blamed = blamed.blamed;
+  line_is = says ∙ sym (ap (λ said. fault_line name said.0 (kind_name said.1)) blamed.said);
+}
 blamed_text k name text said map_fault.NoMemory blamed says = absurd says
 
 -- from the text that was read to what its file holds
@@ -33,7 +38,7 @@ prepared k input output before text r held short made =
       period = m.period;
       tables = m.tables;
       registers = m.registers;
-      accepted = holds_of before input text (IsAccepted k) held (record { short = short; mappable = record { circuit = m.maps.source; of_text = m.maps.of_text; narrow = m.maps.source_narrow } });
+      accepted = holds_of before input text (IsAccepted k) held (record { short = short; mappable = record { circuit = m.maps.source; of_text = m.maps.of_text; few = m.maps.few } });
       maps = holds_of before input text (λ t. Maps k t ready.text.items m.period m.tables m.registers) held m.maps;
       done_is = m.done_is;
       unwritten_is = m.unwritten_is;
@@ -56,7 +61,7 @@ refused k input before counts_before counts_after text (Ok ready) held short why
 refused k input before counts_before counts_after text (Err e) held short why = refused_text k input before counts_before counts_after text e held short why
 
 -- a count that rose at the end rose in the whole
-rose_later : (before middle after : ℕ) → before ≤ middle → Rose middle after → Rose before after
+pub rose_later : (before middle after : ℕ) → before ≤ middle → Rose middle after → Rose before after
 rose_later before middle after le (inl lt) = inl (omega arith)
 rose_later before middle after le (inr top) = inr top
 

@@ -1,12 +1,17 @@
 -- Which statuses come, from what each says.
-use Rattle.std.proofs.Common.{◌≡◌, ◌⊎◌, ◌↔◌, inl, inr, ℕ, List, Option, None, Some, refl, arith}
+use Rattle.std.proofs.Common.{◌≡◌, ◌⊎◌, ◌↔◌, inl, inr, ℕ, List, Option, None, Some, refl, subst, length, ◌≤◌, arith}
 use Rattle.turbomap.specs.declared.status.Status.{Status}
 use Rattle.turbomap.specs.declared.status.Status.TheVariants.{Done, NoMemory, BadWords, Unread, Unwritten, BadText, TooLong}
-use Rattle.turbomap.specs.Map.{Blame, fault, wide, IsMappable, IsBlamed}
+use Rattle.tm_circuit.specs.Plain.{Plain}
+use Rattle.tm_split.specs.declared.count.TheConstants.{MOST_SIGNALS}
+use Rattle.tm_split.specs.Subject.{subject_of}
+use Rattle.turbomap.specs.Map.{Blame, fault, too_large, IsMappable, IsBlamed}
 use Rattle.turbomap.specs.Outcome.{Stored, Spoken}
 use Rattle.turbomap.specs.Run.{number, IsLong, IsRefusedFor, IsAccepted, IsRun, IsToldLong, IsToldRefused, IsToldAccepted, IsFaultless}
-use Rattle.turbomap.specs.Words.{Asked, map_files}
+use Rattle.turbomap.specs.Words.{Asked, map_files, sim_files, show_file}
 use Rattle.turbomap.proofs.Held.{held_clash}
+use Rattle.turbomap.proofs.ShowStatuses as show
+use Rattle.turbomap.proofs.SimStatuses as sim
 
 -- ---- facts of one text that exclude each other
 
@@ -18,8 +23,10 @@ long_refused k blame text long refused = omega (arith, refused.short)
 
 mappable_blamed : (k : ℕ) (blame : Blame) (text : List ℕ) → IsBlamed k text blame → IsMappable k text → ⊥
 mappable_blamed k (fault line kind) text blamed mappable = blamed.none mappable.circuit mappable.of_text
-mappable_blamed k wide text blamed mappable =
-    let more = blamed.wide mappable.circuit mappable.of_text in omega (arith, more, mappable.narrow)
+mappable_blamed k too_large text blamed mappable =
+    let few : length (subject_of k blamed.circuit).drives ≤ MOST_SIGNALS
+    = subst (λ (c : Plain). length (subject_of k c).drives ≤ MOST_SIGNALS) (blamed.only mappable.circuit mappable.of_text) mappable.few in
+    omega (arith, few, blamed.many)
 
 -- ---- the words
 
@@ -38,6 +45,8 @@ words (Some (map_files k d input output)) s p Unread says = (λ is. cc, λ is. c
 words (Some (map_files k d input output)) s p Unwritten says = (λ is. cc, λ is. cc)
 words (Some (map_files k d input output)) s p BadText says = (λ is. cc, λ is. cc)
 words (Some (map_files k d input output)) s p TooLong says = (λ is. cc, λ is. cc)
+words (Some (sim_files input vectors output)) s p status says = (λ is. absurd (sim.words input vectors output s p status says is), λ is. cc)
+words (Some (show_file input)) s p status says = (λ is. absurd (show.words input s p status says is), λ is. cc)
 
 -- ---- a file that is too long
 
@@ -56,6 +65,8 @@ long (Some (map_files k d input output)) s p Unwritten (inr says) told =
 long (Some (map_files k d input output)) s p BadText says told =
     absurd (held_clash s.before input IsLong (IsRefusedFor k says.blame) told says.refused (long_refused k says.blame))
 long (Some (map_files k d input output)) s p TooLong says told = inr (inr refl)
+long (Some (sim_files input vectors output)) s p status says told = sim.long input vectors output s p status says told
+long (Some (show_file input)) s p status says told = show.long input s p status says told
 
 -- ---- a text that is refused
 
@@ -80,6 +91,8 @@ refused (Some (map_files k d input output)) s p Unwritten (inr says) (blame, tol
 refused (Some (map_files k d input output)) s p BadText says told = inr (inr refl)
 refused (Some (map_files k d input output)) s p TooLong says (blame, told) =
     absurd (held_clash s.before input (IsRefusedFor k blame) IsLong told says.long (refused_long k blame))
+refused (Some (sim_files input vectors output)) s p status says (why, told) = sim.refused input vectors output why s p status says told.0 told.1
+refused (Some (show_file input)) s p status says (line, told) = show.refused input line told.0 s p status says told.1
 
 -- ---- what can be done
 
@@ -102,3 +115,6 @@ complete (Some (map_files k d input output)) s p BadText says told faultless =
     absurd (held_clash s.before input (IsAccepted k) (IsRefusedFor k says.blame) told says.refused (accepted_refused k says.blame))
 complete (Some (map_files k d input output)) s p TooLong says told faultless =
     absurd (held_clash s.before input (IsAccepted k) IsLong told says.long (accepted_long k))
+complete (Some (sim_files input vectors output)) s p status says told faultless =
+    sim.complete input vectors output s p status says told faultless.0 faultless.1 faultless.2 faultless.3
+complete (Some (show_file input)) s p status says told faultless = show.complete input s p status says told faultless.0 faultless.1

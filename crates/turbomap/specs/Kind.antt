@@ -1,5 +1,7 @@
 -- The names of the kinds of faults, as lines say them.
 use Rattle.std.specs.Prelude.{ℕ, List, codes}
+use Rattle.tm_sim.specs.declared.vectors.VectorKind.{VectorKind}
+use Rattle.tm_sim.specs.declared.vectors.VectorKind.TheVariants.{Byte, Width}
 use Rattle.blif_read.specs.declared.fault.BlifKind.{BlifKind}
 use Rattle.blif_read.specs.declared.fault.BlifKind.TheVariants.{BadByte, LongName, UnknownWord, LeftOut, Misplaced, BadCount, TooManyPins, RepeatedDriver, RepeatedOutput, BadRow, MixedRows, BadType, BadInit, UnknownInit, ManyClocks, Undriven, GatedClock, ClockAsData, TooManySignals, Loop, BadBinding, RepeatedModel, NoModel, UnknownFormal, RepeatedFormal, Unbound, Recursion, TooDeep, TooLarge}
 
@@ -34,3 +36,7 @@ kind_name Unbound = codes "Unbound"
 kind_name Recursion = codes "Recursion"
 kind_name TooDeep = codes "TooDeep"
 kind_name TooLarge = codes "TooLarge"
+
+abbrev pub vector_kind_name : VectorKind → List ℕ
+vector_kind_name Byte = codes "Byte"
+vector_kind_name Width = codes "Width"

@@ -4,5 +4,12 @@ pub mod Map
 pub mod Mapped
 pub mod Outcome
 pub mod Prepared
+pub mod Refused
+pub mod Rows
 pub mod Run
+pub mod Show
+pub mod ShowMade
+pub mod SimMade
+pub mod SimRun
+pub mod Simulate
 pub mod Words

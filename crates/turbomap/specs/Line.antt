@@ -21,11 +21,11 @@ too_long_line name = name ++ codes ": too long"
 abbrev pub fault_line : List ℕ → ℕ → List ℕ → List ℕ
 fault_line name line kind = name ++ codes ": line " ++ decimal line ++ codes ": " ++ kind
 
--- a file whose circuit has a gate with too many pins
-abbrev pub wide_line : List ℕ → List ℕ
-wide_line name = name ++ codes ": line 0: Wide"
-
 -- a mapped circuit: its period and its numbers of tables and of registers
 abbrev pub mapped_line : ℕ → ℕ → ℕ → List ℕ
 mapped_line period tables registers =
     codes "period " ++ decimal period ++ codes " tables " ++ decimal tables ++ codes " registers " ++ decimal registers
+
+-- a simulation: its number of steps
+abbrev pub steps_line : ℕ → List ℕ
+steps_line steps = codes "steps " ++ decimal steps

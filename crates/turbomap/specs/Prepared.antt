@@ -1,6 +1,5 @@
 -- What is made before the first write of a run, what ends a run before it, and what comes from it on.
 use Rattle.std.specs.Prelude.{◌≡◌, ◌⊎◌, ℕ, List, Option, string_bytes}
-use Rattle.tm_store.specs.Faults.{Rose}
 use Rattle.tm_store.specs.Files.{Files}
 use Rattle.turbomap.specs.declared.map.Mapped.{Mapped}
 use Rattle.turbomap.specs.declared.map.MapFault.{MapFault}
@@ -10,17 +9,18 @@ use Rattle.turbomap.specs.declared.refusal.Refusal.TheVariants as refusal
 use Rattle.turbomap.specs.declared.prepare.Ready.{Ready}
 use Rattle.turbomap.specs.declared.status.Status.{Status}
 use Rattle.turbomap.specs.declared.status.Status.TheVariants as status
-use Rattle.turbomap.specs.Line.{no_memory_line, unread_line, unwritten_line, too_long_line, mapped_line}
-use Rattle.turbomap.specs.Map.{Maps, Blame, fault, wide, IsBlamed}
-use Rattle.turbomap.specs.Outcome.{Stored, Spoken, Holds, LosesOnly, Writes, SaysWhole, SaysPart, Says}
-use Rattle.turbomap.specs.Run.{IsLong, IsAccepted, IsRefusedFor, blame_line}
+use Rattle.turbomap.specs.declared.text.TheConstants.{SOURCE_BYTES}
+use Rattle.turbomap.specs.Line.{no_memory_line, unwritten_line, mapped_line}
+use Rattle.turbomap.specs.Map.{Maps, Blame, fault, IsBlamed}
+use Rattle.turbomap.specs.Outcome.{Stored, Spoken, Holds, IsWritten, FailsToWrite, FailsToSay}
+use Rattle.turbomap.specs.Refused.{IsReadFault, IsLengthFault}
+use Rattle.turbomap.specs.Run.{IsAccepted, IsRefusedFor, blame_line}
 
 -- ---- one text
 
 -- the line says this fault of the file
 abbrev pub SaysFault : List ℕ → MapFault → List ℕ → Type 0
 SaysFault name (map_fault.Text line kind) said = said ≡ blame_line name (fault line kind)
-SaysFault name map_fault.Wide said = said ≡ blame_line name wide
 SaysFault name map_fault.NoMemory said = ⊥
 
 -- the text and the lines of a mapped circuit
@@ -62,25 +62,17 @@ pub record IsPrepared (k : ℕ) (input output : List ℕ) (before : Option Files
   pub done_is : string_bytes ready.done ≡ mapped_line period tables registers
   pub unwritten_is : string_bytes ready.unwritten ≡ unwritten_line output
 
-pub record IsReadFault (name : List ℕ) (counts_before counts_after : List ℕ → ℕ) (line : List ℕ) : Type 0 where
-  pub counted : Rose (counts_before name) (counts_after name)
-  pub line_is : line ≡ unread_line name
-
 pub record IsTextFault (k : ℕ) (name : List ℕ) (before : Option Files) (line : List ℕ) : Type 0 where
   pub blame : Blame
   pub refused : Holds before name (IsRefusedFor k blame)
   pub line_is : line ≡ blame_line name blame
-
-pub record IsLengthFault (name : List ℕ) (before : Option Files) (line : List ℕ) : Type 0 where
-  pub long : Holds before name IsLong
-  pub line_is : line ≡ too_long_line name
 
 -- why a run ends before its first write, and the line that says so
 abbrev pub IsRefusal : ℕ → List ℕ → Option Files → (List ℕ → ℕ) → (List ℕ → ℕ) → Refusal → Type 0
 IsRefusal k name before counts_before counts_after refusal.NoMemory = Unit {0}
 IsRefusal k name before counts_before counts_after (refusal.Unread line) = IsReadFault name counts_before counts_after (string_bytes line)
 IsRefusal k name before counts_before counts_after (refusal.BadText line) = IsTextFault k name before (string_bytes line)
-IsRefusal k name before counts_before counts_after (refusal.TooLong line) = IsLengthFault name before (string_bytes line)
+IsRefusal k name before counts_before counts_after (refusal.TooLong line) = IsLengthFault SOURCE_BYTES name before (string_bytes line)
 
 -- the status of a refusal, and the line that it says
 abbrev pub status_of : Refusal → Status
@@ -96,22 +88,6 @@ line_of (refusal.BadText line) = string_bytes line
 line_of (refusal.TooLong line) = string_bytes line
 
 -- ---- from the first write on
-
--- the bytes were written and the line was said
-pub record IsWritten (output bytes done : List ℕ) (stored : Stored) (spoken : Spoken) : Type 0 where
-  pub written : Writes stored.before stored.after output bytes
-  pub says : SaysWhole spoken done
-
--- the write failed
-pub record FailsToWrite (output unwritten : List ℕ) (stored : Stored) (spoken : Spoken) : Type 0 where
-  pub counted : Rose (stored.unwritten_before output) (stored.unwritten_after output)
-  pub others : LosesOnly stored.before stored.after output
-  pub says : Says spoken unwritten
-
--- the bytes were written, but the line was not said whole
-pub record FailsToSay (output bytes done : List ℕ) (stored : Stored) (spoken : Spoken) : Type 0 where
-  pub written : Writes stored.before stored.after output bytes
-  pub says : SaysPart spoken done
 
 abbrev pub IsDelivered : List ℕ → Ready → Stored → Spoken → Status → Type 0
 IsDelivered output ready stored spoken status.Done = IsWritten output ready.text.items (string_bytes ready.done) stored spoken

@@ -2,14 +2,21 @@
 use Rattle.std.specs.Prelude.{◌≡◌, ℕ, ◌<◌, ◌≤◌, List, Option, None, Some, length, ◌⊎◌}
 use Rattle.tm_store.specs.Faults.{Rose}
 use Rattle.tm_store.specs.Files.{Files}
-use Rattle.turbomap.specs.declared.text.TheConstants.{SOURCE_BYTES}
+use Rattle.blif_read.specs.declared.fault.BlifKind.{BlifKind}
+use Rattle.turbomap.specs.declared.simulate.SimFault.{SimFault}
+use Rattle.turbomap.specs.declared.simulate.SimFault.TheVariants as sim_fault
+use Rattle.turbomap.specs.declared.text.TheConstants.{SOURCE_BYTES, MAPPED_BYTES, VECTOR_BYTES}
 use Rattle.turbomap.specs.declared.status.Status.{Status}
 use Rattle.turbomap.specs.declared.status.Status.TheVariants.{Done, NoMemory, BadWords, Unread, Unwritten, BadText, TooLong}
 use Rattle.turbomap.specs.Kind.{kind_name}
-use Rattle.turbomap.specs.Line.{no_memory_line, bad_words_line, unread_line, unwritten_line, too_long_line, fault_line, wide_line, mapped_line}
-use Rattle.turbomap.specs.Map.{IsMappable, Maps, Blame, fault, wide, IsBlamed}
+use Rattle.turbomap.specs.Line.{no_memory_line, bad_words_line, unread_line, unwritten_line, too_long_line, fault_line, mapped_line}
+use Rattle.turbomap.specs.Map.{IsMappable, Maps, Blame, said_of, IsBlamed}
 use Rattle.turbomap.specs.Outcome.{Stored, Spoken, Holds, IsToldToHold, LosesOnly, Writes, IsUnchanged, SaysWhole, SaysPart, Says}
-use Rattle.turbomap.specs.Words.{Asked, map_files}
+use Rattle.turbomap.specs.Refused.{IsOver}
+use Rattle.turbomap.specs.Show.{IsShowable, IsUnshown, IsShowRun}
+use Rattle.turbomap.specs.SimRun.{sim_status, IsUnsimulated, IsSimRun, AreToldToHold}
+use Rattle.turbomap.specs.Simulate.{IsSimulable}
+use Rattle.turbomap.specs.Words.{Asked, map_files, sim_files, show_file}
 
 -- the number that stands for a status
 abbrev pub number : Status → ℕ
@@ -23,8 +30,7 @@ number TooLong = 6
 
 -- the line that says why the text of a file is refused
 abbrev pub blame_line : List ℕ → Blame → List ℕ
-blame_line name (fault line kind) = fault_line name line (kind_name kind)
-blame_line name wide = wide_line name
+blame_line name blame = fault_line name (said_of blame).0 (kind_name (said_of blame).1)
 
 -- ---- facts about the bytes of the file that is mapped
 
@@ -118,6 +124,8 @@ IsBadRun stored spoken _ = ⊥
 abbrev pub IsRun : Option Asked → Stored → Spoken → Status → Type 0
 IsRun None stored spoken status = IsBadRun stored spoken status
 IsRun (Some (map_files k d input output)) stored spoken status = IsMapRun k input output stored spoken status
+IsRun (Some (sim_files input vectors output)) stored spoken status = IsSimRun input vectors output stored spoken status
+IsRun (Some (show_file input)) stored spoken status = IsShowRun input stored spoken status
 
 -- The answer is the number of a status that says what was done.
 pub record Answers (asked : Option Asked) (stored : Stored) (spoken : Spoken) (answer : ℕ) : Type 0 where
@@ -127,20 +135,30 @@ pub record Answers (asked : Option Asked) (stored : Stored) (spoken : Spoken) (a
 
 -- ---- when which statuses come
 
--- a file that is read is told to be longer than its limit
+-- a file that is read is told to be longer than its limit, or the output rows of two files are
 abbrev pub IsToldLong : Option Asked → Option Files → Type 0
 IsToldLong None before = ⊥
 IsToldLong (Some (map_files k d input output)) before = IsToldToHold before input IsLong
+IsToldLong (Some (sim_files input vectors output)) before =
+    IsToldToHold before input (IsOver MAPPED_BYTES)
+    ⊎ (IsToldToHold before vectors (IsOver VECTOR_BYTES) ⊎ AreToldToHold input vectors before (IsUnsimulated sim_fault.TooLong))
+IsToldLong (Some (show_file input)) before = IsToldToHold before input (IsOver MAPPED_BYTES)
 
 -- no file that is read is longer than its limit, and the text of one is told to be refused
 abbrev pub IsToldRefused : Option Asked → Option Files → Type 0
 IsToldRefused None before = ⊥
 IsToldRefused (Some (map_files k d input output)) before = ((blame : Blame) × IsToldToHold before input (IsRefusedFor k blame))
+IsToldRefused (Some (sim_files input vectors output)) before =
+    ((fault : SimFault) × ((sim_status fault ≡ BadText) × AreToldToHold input vectors before (IsUnsimulated fault)))
+IsToldRefused (Some (show_file input)) before =
+    ((line : ℕ) × ((kind : BlifKind) × IsToldToHold before input (IsUnshown line kind)))
 
 -- what is asked for can be done with the files told
 abbrev pub IsToldAccepted : Option Asked → Option Files → Type 0
 IsToldAccepted None before = ⊥
 IsToldAccepted (Some (map_files k d input output)) before = IsToldToHold before input (IsAccepted k)
+IsToldAccepted (Some (sim_files input vectors output)) before = AreToldToHold input vectors before IsSimulable
+IsToldAccepted (Some (show_file input)) before = IsToldToHold before input IsShowable
 
 -- no count of faults rose for a file read or written, nor the sayer's
 abbrev pub IsFaultless : Option Asked → Stored → Spoken → Type 0
@@ -148,4 +166,12 @@ IsFaultless None stored spoken = ⊥
 IsFaultless (Some (map_files k d input output)) stored spoken =
     (¬ (Rose (stored.unread_before input) (stored.unread_after input)))
     × (¬ (Rose (stored.unwritten_before output) (stored.unwritten_after output)))
+    × (¬ (Rose spoken.faults_before spoken.faults_after))
+IsFaultless (Some (sim_files input vectors output)) stored spoken =
+    (¬ (Rose (stored.unread_before input) (stored.unread_after input)))
+    × (¬ (Rose (stored.unread_before vectors) (stored.unread_after vectors)))
+    × (¬ (Rose (stored.unwritten_before output) (stored.unwritten_after output)))
+    × (¬ (Rose spoken.faults_before spoken.faults_after))
+IsFaultless (Some (show_file input)) stored spoken =
+    (¬ (Rose (stored.unread_before input) (stored.unread_after input)))
     × (¬ (Rose spoken.faults_before spoken.faults_after))

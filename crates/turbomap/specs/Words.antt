@@ -4,15 +4,20 @@ use Rattle.std.specs.List.{list_any}
 use Rattle.tm_bits.specs.declared.TheConstants.{MOST_K}
 use Rattle.turbomap.specs.declared.words.TheConstants.{MOST_D}
 use Rattle.turbomap.specs.declared.words.Command.{Command}
-use Rattle.turbomap.specs.declared.words.Command.TheVariants.{Map}
+use Rattle.turbomap.specs.declared.words.Command.TheVariants.{Map, Sim, Show}
 
--- what the words ask for: the numbers K and D and the names of IN and OUT
+-- what the words ask for: to map with the numbers K and D and the names of IN and OUT, to simulate IN with VECTORS into
+-- OUT, or to report on IN
 pub data Asked : Type 0 where
   map_files : ℕ → ℕ → List ℕ → List ℕ → Asked
+  sim_files : List ℕ → List ℕ → List ℕ → Asked
+  show_file : List ℕ → Asked
 
 -- a command as what is asked for
 abbrev pub seen : Command → Asked
 seen (Map words) = map_files words.k words.d words.input.now words.output.now
+seen (Sim words) = sim_files words.input.now words.vectors.now words.output.now
+seen (Show input) = show_file input.now
 
 -- one decimal digit in the range: no sign, no leading zero
 abbrev pub digit_between : ℕ → ℕ → List ℕ → Option ℕ
@@ -36,7 +41,18 @@ map_of k d input output =
     if are_names (input ∷ output ∷ []) then Some (map_files k d input output) else None)
     (digit_between 0 MOST_D d)) (digit_between 2 MOST_K k)
 
+-- the words after `sim`: IN VECTORS OUT
+abbrev pub sim_of : List ℕ → List ℕ → List ℕ → Option Asked
+sim_of input vectors output =
+    if are_names (input ∷ vectors ∷ output ∷ []) then Some (sim_files input vectors output) else None
+
+-- the word after `show`: IN
+abbrev pub show_of : List ℕ → Option Asked
+show_of input = if are_names (input ∷ []) then Some (show_file input) else None
+
 -- The table of forms: what a list of words asks for, or nothing. Each form has its verb and its number of words.
 abbrev pub asked_of : List (List ℕ) → Option Asked
 asked_of (verb ∷ k ∷ d ∷ input ∷ output ∷ []) = if bytes_eq verb (codes "map") then map_of k d input output else None
+asked_of (verb ∷ input ∷ vectors ∷ output ∷ []) = if bytes_eq verb (codes "sim") then sim_of input vectors output else None
+asked_of (verb ∷ input ∷ []) = if bytes_eq verb (codes "show") then show_of input else None
 asked_of words = None

@@ -1,9 +1,10 @@
 // The names of the kinds of faults, as lines say them.
 
 ghost use Rattle.std.specs.Prelude.{◌≡◌};
-ghost use Rattle.turbomap.specs.Kind.{kind_name};
+ghost use Rattle.turbomap.specs.Kind.{kind_name, vector_kind_name};
 
 use blif_read::BlifKind;
+use tm_sim::VectorKind;
 
 /// The name of the kind: that of its variant.
 pub fn kind_name(kind: BlifKind) -> &'static str
@@ -39,5 +40,15 @@ pub fn kind_name(kind: BlifKind) -> &'static str
         BlifKind::Recursion => "Recursion",
         BlifKind::TooDeep => "TooDeep",
         BlifKind::TooLarge => "TooLarge",
+    }
+}
+
+/// The name of the kind of fault of a text of vectors: that of its variant.
+pub fn vector_kind_name(kind: VectorKind) -> &'static str
+    ensures { result.now ≡ vector_kind_name kind }
+{
+    match kind {
+        VectorKind::Byte => "Byte",
+        VectorKind::Width => "Width",
     }
 }

@@ -1,7 +1,7 @@
 // The lines said, each without its LF.
 
 ghost use Rattle.std.specs.Prelude.{◌≡◌, IfOk, string_bytes};
-ghost use Rattle.turbomap.specs.Line.{unread_line, unwritten_line, too_long_line, fault_line, wide_line, mapped_line};
+ghost use Rattle.turbomap.specs.Line.{unread_line, unwritten_line, too_long_line, fault_line, mapped_line, steps_line};
 
 use std::alloc::{AllocError, Global};
 
@@ -39,13 +39,6 @@ pub fn fault_line(alloc: Global, name: &str, line: u32, kind: &str) -> Result<St
     format!(in alloc; "{name}: line {line}: {kind}")
 }
 
-/// Says that a gate of the file's circuit has too many pins.
-pub fn wide_line(alloc: Global, name: &str) -> Result<String, AllocError>
-    ensures { IfOk result (λ line. string_bytes line ≡ wide_line name.now) }
-{
-    format!(in alloc; "{name}: line 0: Wide")
-}
-
 /// Says the period of a mapped circuit and its numbers of tables and registers.
 pub fn mapped_line(
     alloc: Global,
@@ -56,4 +49,11 @@ pub fn mapped_line(
     ensures { IfOk result (λ line. string_bytes line ≡ mapped_line period tables registers) }
 {
     format!(in alloc; "period {period} tables {tables} registers {registers}")
+}
+
+/// Says the number of steps of a simulation.
+pub fn steps_line(alloc: Global, steps: u32) -> Result<String, AllocError>
+    ensures { IfOk result (λ line. string_bytes line ≡ steps_line steps) }
+{
+    format!(in alloc; "steps {steps}")
 }

@@ -9,6 +9,9 @@ pub mod map;
 mod prepare;
 mod refusal;
 mod say;
+mod show_file;
+mod sim_files;
+pub mod simulate;
 pub mod status;
 #[cfg(test)]
 mod tests;

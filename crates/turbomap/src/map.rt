@@ -5,9 +5,11 @@ ghost use Rattle.tm_bits.specs.declared.TheConstants.{MOST_K};
 ghost use Rattle.turbomap.specs.declared.text.TheConstants.{SOURCE_BYTES};
 ghost use Rattle.turbomap.specs.declared.words.TheConstants.{MOST_D};
 ghost use Rattle.tm_circuit.specs.Plain.{widest};
+ghost use Rattle.tm_circuit.specs.Sound.{IsSound};
 ghost use Rattle.blif_read.specs.Text.{IsCircuitOf};
 ghost use Rattle.turbomap.specs.Map.{Maps, IsFaulty};
-ghost use Rattle.turbomap.specs.Mapped.{IsMapFault, IsReadFault, IsMappedOf};
+ghost use Rattle.tm_split.specs.Names.{HasNamesWithin};
+ghost use Rattle.turbomap.specs.Mapped.{IsMapFault, IsReadFault, IsSubject, IsSplitFault, IsMappedOf};
 
 use blif_read::{BlifFault, BlifKind, SOURCE, read};
 use std::alloc::Global;
@@ -15,6 +17,7 @@ use thiserror::Error;
 use tm_bits::NoMemory;
 use tm_circuit::Circuit;
 use tm_own::own;
+use tm_split::{SplitFault, subject};
 
 /// A mapped text, with the period of its circuit and its numbers of tables and registers.
 #[derive(Drop)]
@@ -28,11 +31,9 @@ pub struct Mapped {
 /// Why a text was not mapped.
 #[derive(Clone, Copy, Debug, PartialEq, Eq, Error)]
 pub enum MapFault {
-    /// The first fault of the text; its line is 0 where the fault is one of the whole text.
+    /// The first fault of the text, or `TooManySignals` of its subject circuit; the line is 0 where the fault is one of the whole.
     #[error("line {line}: {kind:?}")]
     Text { line: u32, kind: BlifKind },
-    #[error("a gate has more pins than a table may have")]
-    Wide,
     #[error("no memory")]
     NoMemory,
 }
@@ -48,7 +49,8 @@ impl From<NoMemory> for MapFault {
     }
 }
 
-/// Maps the circuit of a text to tables of at most `k` inputs: each gate is its own table, and no register moves.
+/// Maps the circuit of a text to tables of at most `k` inputs: wide gates are split, then each gate is its own table, and no
+/// register moves.
 pub fn map_text(alloc: Global, text: &[u8], k: u8, d: u8) -> Result<Mapped, MapFault>
     requires tables { (2 ≤ k) × (k ≤ MOST_K) }
     requires lags { d ≤ MOST_D }
@@ -58,22 +60,42 @@ pub fn map_text(alloc: Global, text: &[u8], k: u8, d: u8) -> Result<Mapped, MapF
 {
     let _ = d;
     let source = read_source(alloc, text)?;
-    if source.widest() > u32::from(k) {
-        return Err(MapFault::Wide);
-    }
-    Ok(mapped_of(alloc, &source)?)
+    let subject = split(alloc, &source, k)?;
+    Ok(mapped_of(alloc, &subject)?)
 }
 
 // The circuit of the text.
 fn read_source(alloc: Global, text: &[u8]) -> Result<Circuit, MapFault>
     requires { length text.now ≤ SOURCE_BYTES }
     ensures circuit { IfOk result (IsCircuitOf SOURCE text.now) }
+    ensures sound { IfOk result IsSound }
     ensures fault { IfErr result (IsReadFault text.now) }
 {
     match read(alloc, text, &SOURCE) {
-        Ok(circuit) => Ok(circuit),
+        Ok(circuit) => {
+            // Each circuit in hand is known to be sound.
+            let _ = circuit.signals();
+            Ok(circuit)
+        }
         Err(BlifFault::Text { line, kind }) => Err(MapFault::Text { line, kind }),
         Err(BlifFault::NoMemory) => Err(MapFault::NoMemory),
+    }
+}
+
+// The subject circuit, in which no gate has more than `k` pins.
+fn split(alloc: Global, source: &Circuit, k: u8) -> Result<Circuit, MapFault>
+    requires tables { (2 ≤ k) × (k ≤ MOST_K) }
+    requires names { HasNamesWithin 255 source.now }
+    ensures subject { IfOk result (IsSubject k source.now) }
+    ensures fault { IfErr result (IsSplitFault k source.now) }
+{
+    match subject(alloc, source, k) {
+        Ok(subject) => Ok(subject),
+        Err(SplitFault::TooManySignals) => Err(MapFault::Text {
+            line: 0,
+            kind: BlifKind::TooManySignals,
+        }),
+        Err(SplitFault::NoMemory) => Err(MapFault::NoMemory),
     }
 }
 

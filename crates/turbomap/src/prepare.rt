@@ -8,10 +8,10 @@ ghost use Rattle.turbomap.specs.declared.refusal.Refusal.TheVariants.{NoMemory};
 ghost use Rattle.turbomap.specs.Prepared.{SaysFault, IsReadyOf, IsMade, IsRefusedText, IsPrepared, IsRefusal};
 
 use crate::kind::kind_name;
-use crate::line::{fault_line, mapped_line, too_long_line, unread_line, unwritten_line, wide_line};
+use crate::line::{fault_line, mapped_line, unwritten_line};
 use crate::map::{MapFault, Mapped, map_text};
 use crate::refusal::Refusal;
-use crate::text::{SOURCE_BYTES, TextFault, read_text};
+use crate::text::{SOURCE_BYTES, read_file};
 use crate::words::MapWords;
 use std::alloc::{AllocError, Global};
 use tm_store::Store;
@@ -38,12 +38,8 @@ pub fn prepare<S: Store>(
     ensures same { S.held store.new ≡ S.held store.old }
     ensures write_counts { (n : List ℕ) → S.write_faults store.old n ≤ S.write_faults store.new n }
 {
-    match read_text(alloc, words.input, SOURCE_BYTES, store) {
-        Ok(text) => make_ready(alloc, words, &text),
-        Err(TextFault::Failed) => Err(Refusal::Unread(unread_line(alloc, words.input)?)),
-        Err(TextFault::TooLong) => Err(Refusal::TooLong(too_long_line(alloc, words.input)?)),
-        Err(TextFault::NoMemory) => Err(Refusal::NoMemory),
-    }
+    let text = read_file(alloc, words.input, SOURCE_BYTES, store)?;
+    make_ready(alloc, words, &text)
 }
 
 // Maps the text, and makes the lines.
@@ -83,7 +79,6 @@ fn blame_line(alloc: Global, name: &str, fault: MapFault) -> Result<String, Allo
 {
     match fault {
         MapFault::Text { line, kind } => fault_line(alloc, name, line, kind_name(kind)),
-        MapFault::Wide => wide_line(alloc, name),
         MapFault::NoMemory => Err(AllocError),
     }
 }

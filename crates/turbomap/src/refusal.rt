@@ -21,3 +21,11 @@ impl From<AllocError> for Refusal {
         Refusal::NoMemory
     }
 }
+
+impl From<tm_bits::NoMemory> for Refusal {
+    ghost from_gives = { λ _ refusal. refusal ≡ NoMemory };
+
+    fn from(_refused: tm_bits::NoMemory) -> Self {
+        Refusal::NoMemory
+    }
+}

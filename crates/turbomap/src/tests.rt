@@ -1,4 +1,4 @@
-use crate::text::SOURCE_BYTES;
+use crate::text::{SOURCE_BYTES, VECTOR_BYTES};
 use crate::top::run;
 use std::alloc::Global;
 use std::test::Fail;
@@ -58,6 +58,18 @@ fn run_on(
     failing: &[u64],
     silent: &[u64],
 ) -> Result<Ending, Fail> {
+    run_sim(alloc, words, text, b"", failing, silent)
+}
+
+// A run on a store where `t.blif` and `v` hold these texts and `o.blif` has an empty slot.
+fn run_sim(
+    alloc: Global,
+    words: &[&str],
+    text: &[u8],
+    vectors: &[u8],
+    failing: &[u64],
+    silent: &[u64],
+) -> Result<Ending, Fail> {
     let mut given = Vec::new(alloc);
     for word in words {
         given.push(String::from_str(alloc, word)?)?;
@@ -68,11 +80,15 @@ fn run_on(
         bytes: Some(Vec::from_slice(alloc, text)?),
     })?;
     slots.push(Slot {
+        name: String::from_str(alloc, "v")?,
+        bytes: Some(Vec::from_slice(alloc, vectors)?),
+    })?;
+    slots.push(Slot {
         name: String::from_str(alloc, "o.blif")?,
         bytes: None,
     })?;
     let mut store = MemStore::new(slots, Vec::from_slice(alloc, failing)?);
-    let mut say = MemSay::new(alloc, 100, Vec::from_slice(alloc, silent)?)?;
+    let mut say = MemSay::new(alloc, 200, Vec::from_slice(alloc, silent)?)?;
     let status = run(alloc, &given, &mut store, &mut say);
     Ok(Ending {
         status,
@@ -155,7 +171,7 @@ fn texts_are_mapped(rt: HostRuntime) -> Result<(), Fail> {
     Ok(())
 }
 
-// A file in the style of ABC, one in the style of Yosys, and texts that are refused.
+// A file in the style of ABC, one in the style of Yosys, a wide gate, and texts that are refused.
 #[test]
 fn lines_are_said(rt: HostRuntime) -> Result<(), Fail> {
     let alloc = rt.alloc();
@@ -215,10 +231,10 @@ fn lines_are_said(rt: HostRuntime) -> Result<(), Fail> {
             "t.blif: line 3: LeftOut\n",
         ),
         (
-            "2",
-            ".inputs a b c\n.outputs y\n.names a b c y\n111 1\n.end\n",
-            5,
-            "t.blif: line 0: Wide\n",
+            "4",
+            ".inputs a b c d e f g\n.outputs y\n.names a b c d e f g y\n1111111 0\n0------ 0\n.end\n",
+            0,
+            "period 4 tables 7 registers 0\n",
         ),
     ] {
         let ends = run_on(
@@ -366,5 +382,264 @@ fn limits_of_a_text(rt: HostRuntime) -> Result<(), Fail> {
     let ends = run_on(alloc, words, &text, &[], &[])?;
     assert_eq!(rt; ends.status, 5);
     assert!(rt; ends.said.as_slice() == b"t.blif: line 0: TooManySignals\n".as_slice());
+    Ok(())
+}
+
+// A wide gate whose subject circuit has 99,998 signals, and one of a row more, with 100,001.
+#[test]
+fn splitting_to_the_limit(rt: HostRuntime) -> Result<(), Fail> {
+    let alloc = rt.alloc();
+    let words = ["map", "2", "0", "t.blif", "o.blif"].as_slice();
+    let mut text = Vec::from_slice(alloc, b".inputs a b c\n.outputs y\n.names a b c y\n")?;
+    for _ in 0..33_332 {
+        text.extend_from_slice(b"111 1\n")?;
+    }
+    let ends = run_on(alloc, words, &text, &[], &[])?;
+    assert_eq!(rt; ends.status, 0);
+    assert!(rt; ends.said.as_slice() == b"period 18 tables 99995 registers 0\n".as_slice());
+    text.extend_from_slice(b"111 1\n")?;
+    let ends = run_on(alloc, words, &text, &[], &[])?;
+    assert_eq!(rt; ends.status, 5);
+    assert!(rt; ends.said.as_slice() == b"t.blif: line 0: TooManySignals\n".as_slice());
+    Ok(())
+}
+
+// Simulations: sim, no inputs, equal source with different initial values, a last line without LF, a CR, faults of either text, each
+// store call and the sayer failing, words without a reading.
+#[test]
+fn circuits_are_simulated(rt: HostRuntime) -> Result<(), Fail> {
+    let alloc = rt.alloc();
+    let four =
+        ".model four\n.inputs a b c d\n.outputs y\n.latch a q1 0\n.latch b q2 0\n.latch c q3 1\n.latch d q4 1\n.latch g3 y 0\n.names q1 q2 g1\n11 1\n.names q3 q4 g2\n11 1\n.names g1 g2 g3\n1- 1\n-1 1\n.end\n";
+    let forward =
+        ".model four\n.inputs a b c d\n.outputs y\n.latch g3 y 0\n.latch g1+1 g1 0\n.latch g2+1 g2 1\n.names a b g1+1\n11 1\n.names c d g2+1\n11 1\n.names g1 g2 g3\n01 1\n10 1\n11 1\n.end\n";
+    let count =
+        ".model count\n.inputs\n.outputs q1 q0\n.latch n0 q0 0\n.latch n1 q1 0\n.names q0 n0\n0 1\n.names q0 q1 n1\n10 1\n01 1\n.end\n";
+    let pair =
+        ".model pair\n.inputs a b\n.outputs y\n.latch x q 0\n.latch x r 1\n.names a b x\n11 1\n.names q r y\n10 1\n01 1\n.end\n";
+    let pair_mapped =
+        ".model pair\n.inputs a b\n.outputs y\n.latch x q 0\n.latch x r 1\n.names a b x\n11 1\n.names q r y\n01 1\n10 1\n.end\n";
+    let pair_moved = ".model pair\n.inputs a b\n.outputs y\n.latch y+1 y 1\n.names a b y+1\n.end\n";
+    let rows = "1100\n0000\n0011\n0000\n";
+    let sim = ["sim", "t.blif", "v", "o.blif"].as_slice();
+    let none = [].as_slice();
+    for (words, text, vectors, failing, silent, status, said, out) in [
+        (sim, four, rows, none, none, 0, "steps 4\n", "0\n1\n1\n0\n"),
+        (
+            sim,
+            forward,
+            rows,
+            none,
+            none,
+            0,
+            "steps 4\n",
+            "0\n1\n1\n0\n",
+        ),
+        (
+            sim,
+            four,
+            "1100\n110\n",
+            none,
+            none,
+            5,
+            "v: line 2: Width\n",
+            "nothing",
+        ),
+        (sim, four, "", none, none, 0, "steps 0\n", ""),
+        (
+            sim,
+            count,
+            "\n\n\n\n\n",
+            none,
+            none,
+            0,
+            "steps 5\n",
+            "00\n01\n10\n11\n00\n",
+        ),
+        (
+            sim,
+            pair,
+            "11\n00\n11\n",
+            none,
+            none,
+            0,
+            "steps 3\n",
+            "1\n0\n0\n",
+        ),
+        (
+            sim,
+            pair_mapped,
+            "11\n00\n11\n",
+            none,
+            none,
+            0,
+            "steps 3\n",
+            "1\n0\n0\n",
+        ),
+        (
+            sim,
+            pair_moved,
+            "11\n00\n11\n",
+            none,
+            none,
+            0,
+            "steps 3\n",
+            "1\n0\n0\n",
+        ),
+        (
+            sim,
+            four,
+            "1100\n0000",
+            none,
+            none,
+            0,
+            "steps 2\n",
+            "0\n1\n",
+        ),
+        (
+            sim,
+            four,
+            "1100\r\n",
+            none,
+            none,
+            5,
+            "v: line 1: Byte\n",
+            "nothing",
+        ),
+        (
+            sim,
+            ".outputs z\n",
+            "2\n",
+            none,
+            none,
+            5,
+            "t.blif: line 1: Undriven\n",
+            "nothing",
+        ),
+        (
+            sim,
+            four,
+            rows,
+            [0].as_slice(),
+            none,
+            3,
+            "cannot read t.blif\n",
+            "nothing",
+        ),
+        (
+            sim,
+            four,
+            rows,
+            [1].as_slice(),
+            none,
+            3,
+            "cannot read v\n",
+            "nothing",
+        ),
+        (
+            sim,
+            four,
+            rows,
+            [2].as_slice(),
+            none,
+            4,
+            "cannot write o.blif\n",
+            "nothing",
+        ),
+        (sim, four, rows, none, [0].as_slice(), 4, "", "0\n1\n1\n0\n"),
+        (sim, four, "2\n", none, [0].as_slice(), 5, "", "nothing"),
+        (
+            ["sim", "t.blif", "v", "v"].as_slice(),
+            four,
+            rows,
+            none,
+            none,
+            2,
+            "bad command line\n",
+            "nothing",
+        ),
+        (
+            ["sim", "t.blif", "o.blif"].as_slice(),
+            four,
+            rows,
+            none,
+            none,
+            2,
+            "bad command line\n",
+            "nothing",
+        ),
+        (
+            ["show", ""].as_slice(),
+            four,
+            rows,
+            none,
+            none,
+            2,
+            "bad command line\n",
+            "nothing",
+        ),
+    ] {
+        let ends = run_sim(
+            alloc,
+            words,
+            text.as_bytes(),
+            vectors.as_bytes(),
+            failing,
+            silent,
+        )?;
+        assert_eq!(rt; ends.status, status, "{text}{vectors}");
+        assert!(rt; ends.said.as_slice() == said.as_bytes(), "{text}{vectors}");
+        assert!(rt; ends.out.as_slice() == out.as_bytes(), "{text}{vectors}");
+    }
+    Ok(())
+}
+
+// Reports: show, a circuit without gates, a text at fault, the store call and lines that fail; and lengths: output rows past their limit,
+// and vectors that are too long for a text that is at fault itself.
+#[test]
+fn circuits_are_shown(rt: HostRuntime) -> Result<(), Fail> {
+    let alloc = rt.alloc();
+    let abc =
+        "# Benchmark \"s\" written by ABC\n.model s\n.inputs a \\\n b\n.outputs y\n.latch       n5 q  0\n.names a b new_n4\n11 1\n.names new_n4 q n5\n1- 1\n-1 1\n.names q y\n0 1\n.end\n";
+    let report =
+        "model s\ninputs 2 outputs 1 latches 1 gates 3\nwidest 2\nperiod 2\nchain new_n4 n5\nslack new_n4 0\nslack n5 0\nslack y 1\n";
+    let wire = ".model wire\n.inputs a\n.outputs a\n.end\n";
+    let late = ".model u\n.inputs a\n.outputs q\n.latch a q\n.end\n";
+    let none = [].as_slice();
+    for (text, failing, silent, status, said) in [
+        (abc, none, none, 0, report),
+        (
+            wire,
+            none,
+            none,
+            0,
+            "model wire\ninputs 1 outputs 1 latches 0 gates 0\nwidest 0\nperiod 0\nchain\n",
+        ),
+        (late, none, none, 5, "t.blif: line 4: UnknownInit\n"),
+        (late, none, [0].as_slice(), 5, ""),
+        (abc, [0].as_slice(), none, 3, "cannot read t.blif\n"),
+        (
+            abc,
+            none,
+            [2].as_slice(),
+            4,
+            "model s\ninputs 2 outputs 1 latches 1 gates 3\n",
+        ),
+    ] {
+        let ends = run_on(alloc, &["show", "t.blif"], text.as_bytes(), failing, silent)?;
+        assert_eq!(rt; ends.status, status, "{text}");
+        assert!(rt; ends.said.as_slice() == said.as_bytes(), "{text}");
+    }
+    let sim = ["sim", "t.blif", "v", "o.blif"].as_slice();
+    let wide =
+        ".outputs a b c d e f g h i j k l m n o p\n.names a\n.names b\n.names c\n.names d\n.names e\n.names f\n.names g\n.names h\n.names i\n.names j\n.names k\n.names l\n.names m\n.names n\n.names o\n.names p\n";
+    let mut steps = vec![in alloc; b'\n'; VECTOR_BYTES as usize]?;
+    let ends = run_sim(alloc, sim, wide.as_bytes(), &steps, &[], &[])?;
+    assert_eq!(rt; ends.status, 6);
+    assert!(rt; ends.said.as_slice() == b"o.blif: too long\n".as_slice());
+    steps.push(b'\n')?;
+    let ends = run_sim(alloc, sim, late.as_bytes(), &steps, &[], &[])?;
+    assert_eq!(rt; ends.status, 6);
+    assert!(rt; ends.said.as_slice() == b"v: too long\n".as_slice());
     Ok(())
 }

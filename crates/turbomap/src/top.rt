@@ -7,12 +7,16 @@ ghost use Rattle.turbomap.specs.Words.{asked_of};
 ghost use Rattle.turbomap.specs.Outcome.{stored, spoken};
 ghost use Rattle.turbomap.specs.Run.{IsMapRun, IsRun, Answers, IsToldLong, IsToldRefused, IsToldAccepted, IsFaultless};
 ghost use Rattle.turbomap.specs.Prepared.{IsDelivered};
+ghost use Rattle.turbomap.specs.Show.{IsShowRun};
+ghost use Rattle.turbomap.specs.SimRun.{IsSimRun};
 
 use crate::line::BAD_WORDS;
 use crate::prepare::{Ready, prepare};
 use crate::say::{refuse, tell};
+use crate::show_file::{prepare_show, tell_lines};
+use crate::sim_files::prepare_sim;
 use crate::status::{Status, number_of};
-use crate::words::{Command, MapWords, command_of};
+use crate::words::{Command, MapWords, SimWords, command_of};
 use std::alloc::Global;
 use tm_store::{Say, Store};
 
@@ -65,6 +69,8 @@ fn run_words<S: Store, W: Say>(
             Status::BadWords
         }
         Some(Command::Map(words)) => map_files(alloc, &words, store, say),
+        Some(Command::Sim(words)) => sim_files(alloc, &words, store, say),
+        Some(Command::Show(input)) => show_file(alloc, input, store, say),
     }
 }
 
@@ -89,7 +95,46 @@ fn map_files<S: Store, W: Say>(
     }
 }
 
-// Writes the mapped text and says the line. Takes no memory.
+// `sim IN VECTORS OUT`.
+fn sim_files<S: Store, W: Say>(
+    alloc: Global,
+    words: &SimWords<'_>,
+    store: &mut S,
+    say: &mut W,
+) -> Status
+    ensures { IsSimRun words.now.input.now words.now.vectors.now words.now.output.now
+        (stored (S.held store.old) (S.held store.new) (S.read_faults store.old) (S.read_faults store.new)
+        (S.write_faults store.old) (S.write_faults store.new))
+        (spoken (W.said say.old) (W.said say.new) (W.faults say.old) (W.faults say.new))
+        result }
+{
+    match prepare_sim(alloc, words, store) {
+        Ok(ready) => deliver(words.output, ready, store, say),
+        Err(refusal) => refuse(&refusal, say),
+    }
+}
+
+// `show IN`.
+fn show_file<S: Store, W: Say>(alloc: Global, input: &str, store: &mut S, say: &mut W) -> Status
+    ensures { IsShowRun input.now
+        (stored (S.held store.old) (S.held store.new) (S.read_faults store.old) (S.read_faults store.new)
+        (S.write_faults store.old) (S.write_faults store.new))
+        (spoken (W.said say.old) (W.said say.new) (W.faults say.old) (W.faults say.new))
+        result }
+{
+    match prepare_show(alloc, input, store) {
+        Ok(lines) => {
+            if tell_lines(say, &lines) {
+                Status::Done
+            } else {
+                Status::Unwritten
+            }
+        }
+        Err(refusal) => refuse(&refusal, say),
+    }
+}
+
+// Writes the text and says the line. Takes no memory.
 fn deliver<S: Store, W: Say>(output: &str, ready: Ready, store: &mut S, say: &mut W) -> Status
     ensures { IsDelivered output.now ready
         (stored (S.held store.old) (S.held store.new) (S.read_faults store.old) (S.read_faults store.new)

@@ -2,7 +2,7 @@
 
 ghost use Rattle.std.specs.Prelude.{◌≡◌, ◌≤◌, map, option_map, string_bytes, bytes_eq};
 ghost use Rattle.std.specs.List.{list_any};
-ghost use Rattle.turbomap.specs.Words.{seen, asked_of, map_of, are_names, is_apart, digit_between};
+ghost use Rattle.turbomap.specs.Words.{seen, asked_of, map_of, sim_of, show_of, are_names, is_apart, digit_between};
 
 use tm_bits::MOST_K;
 
@@ -13,6 +13,9 @@ pub const MOST_D: u8 = 8;
 #[derive(Clone, Copy)]
 pub enum Command<'a> {
     Map(MapWords<'a>),
+    Sim(SimWords<'a>),
+    /// `show IN`: the name of a file.
+    Show(&'a str),
 }
 
 /// `map K D IN OUT`: tables of at most `k` inputs, lags of at most `d`, and the names of two files.
@@ -24,6 +27,14 @@ pub struct MapWords<'a> {
     pub output: &'a str,
 }
 
+/// `sim IN VECTORS OUT`: the names of three files.
+#[derive(Clone, Copy)]
+pub struct SimWords<'a> {
+    pub input: &'a str,
+    pub vectors: &'a str,
+    pub output: &'a str,
+}
+
 /// The command of the words; `None` where they have no reading.
 pub fn command_of(words: &[String]) -> Option<Command<'_>>
     ensures { option_map seen result ≡ asked_of (map string_bytes words.now) }
@@ -32,6 +43,10 @@ pub fn command_of(words: &[String]) -> Option<Command<'_>>
         [verb, k, d, input, output] if verb.as_str() == "map" => {
             map_of(k.as_str(), d.as_str(), input.as_str(), output.as_str())
         }
+        [verb, input, vectors, output] if verb.as_str() == "sim" => {
+            sim_of(input.as_str(), vectors.as_str(), output.as_str())
+        }
+        [verb, input] if verb.as_str() == "show" => show_of(input.as_str()),
         _ => None,
     }
 }
@@ -49,6 +64,32 @@ fn map_of<'a>(k: &str, d: &str, input: &'a str, output: &'a str) -> Option<Comma
             input,
             output,
         }))
+    } else {
+        None
+    }
+}
+
+// The words after `sim`, read.
+fn sim_of<'a>(input: &'a str, vectors: &'a str, output: &'a str) -> Option<Command<'a>>
+    ensures { option_map seen result ≡ sim_of input.now vectors.now output.now }
+{
+    if are_names(&[input, vectors, output]) {
+        Some(Command::Sim(SimWords {
+            input,
+            vectors,
+            output,
+        }))
+    } else {
+        None
+    }
+}
+
+// The word after `show`, read.
+fn show_of(input: &str) -> Option<Command<'_>>
+    ensures { option_map seen result ≡ show_of input.now }
+{
+    if are_names(&[input]) {
+        Some(Command::Show(input))
     } else {
         None
     }

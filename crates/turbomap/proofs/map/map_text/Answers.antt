@@ -1,38 +1,72 @@
-use Rattle.std.proofs.Common.{ℕ, List, ◌<◌, ◌≤◌, arith}
+use Rattle.std.proofs.Common.{◌≡◌, ℕ, List, ◌<◌, ◌≤◌, refl, arith}
+use Rattle.std.proofs.lemmas.Result.{err_from_is_err_and}
 use Rattle.tm_circuit.specs.Plain.{Plain, widest}
 use Rattle.tm_circuit.specs.Sound.{IsSound}
 use Rattle.blif_read.specs.declared.TheConstants.{SOURCE}
 use Rattle.blif_read.specs.Text.{IsCircuitOf}
+use Rattle.blif_read.proofs.SomeCircuit.{same_circuit}
+use Rattle.blif_read.proofs.ShortNames.{short_names}
 use Rattle.turbomap.specs.declared.map.Mapped.{Mapped}
-use Rattle.turbomap.specs.Map.{Maps}
-use Rattle.turbomap.specs.Mapped.{IsMappedOf}
-use Rattle.turbomap.proofs.Widest.{wide_text}
+use Rattle.turbomap.specs.declared.map.MapFault.{MapFault}
+use Rattle.turbomap.specs.declared.map.MapFault.TheVariants as map_fault
+use Rattle.turbomap.specs.Map.{Maps, fault, too_large}
+use Rattle.turbomap.specs.Mapped.{IsSubject, IsSplitFault, IsReadFault, IsMapFault, IsMappedOf}
+use Rattle.tm_circuit.proofs.Sameness.{sound_same_through}
 use Rattle.turbomap.proofs.map.map_text.Goals as goal
 
-maps_of : (k : ℕ) (text : List ℕ) (source : Plain) (mapped : Mapped) → IsCircuitOf SOURCE text source → IsSound source → widest source.drives ≤ k
-    → IsMappedOf source mapped → Maps k text mapped.text.items mapped.period mapped.tables mapped.registers
-maps_of k text source mapped of_text sound narrow made = record {
+maps_of : (k : ℕ) (text : List ℕ) (source subject : Plain) (mapped : Mapped) → IsCircuitOf SOURCE text source → IsSound source
+    → IsSubject k source subject → IsMappedOf subject mapped
+    → Maps k text mapped.text.items mapped.period mapped.tables mapped.registers
+maps_of k text source subject mapped of_text sound split made = record {
   source = source;
   of_text = of_text;
   source_sound = sound;
-  source_narrow = narrow;
+  few = split.few;
   mapped = made.circuit;
+  spelled = made.spelled;
   of_bytes = made.of_text;
   mapped_sound = made.sound;
   only = made.only;
-  same = made.same;
-  narrow = omega (arith, made.narrow, narrow);
+  same = sound_same_through source subject made.circuit split.sound split.same made.same;
+  narrow = omega (arith, made.narrow, split.narrow);
   period_is = made.period_is;
   tables_are = made.tables_are;
   registers_are = made.registers_are;
 }
 
-pub returns-then-widest-from-clause-fault : goal.returns-then-widest-from-clause-fault
-returns-then-widest-from-clause-fault c =
-    let more : c.args.k < widest c.in_ok-source.source.drives = omega (arith, c.if-widest-from.true, c.widest.ensures.pins, c.from.ensures) in
-    wide_text c.args.k c.args.text.now c.in_ok-source.source c.in_ok-source.ensures.circuit more
+map_fault_of : (k : ℕ) (text : List ℕ) (source : Plain) (why : MapFault) → IsCircuitOf SOURCE text source → IsSplitFault k source why
+    → IsMapFault k text why
+map_fault_of k text source (map_fault.Text line kind) of_text why = record {
+  blame = too_large;
+  blamed = record {
+    circuit = source;
+    of_text = of_text;
+    only = λ c of_c. same_circuit SOURCE text c source of_c of_text;
+    many = why.many;
+  };
+  said = rw (why.line_is, why.kind_is) refl;
+}
+map_fault_of k text source map_fault.NoMemory of_text why = tt
+
+read_fault_of : (k : ℕ) (text : List ℕ) (why : MapFault) → IsReadFault text why → IsMapFault k text why
+read_fault_of k text (map_fault.Text line kind) faulty = record { blame = fault line kind; blamed = faulty; said = refl }
+read_fault_of k text map_fault.NoMemory faulty = tt
+
+pub returns-in_err-source-clause-fault : goal.returns-in_err-source-clause-fault
+returns-in_err-source-clause-fault c =
+    let p = err_from_is_err_and c.from_residual.result c.from_residual.ensures.1 in
+    rw (p.1, p.2) (read_fault_of c.args.k c.args.text.now _ c.in_err-source.ensures.fault)
+
+pub split-requires-clause-names : goal.split-requires-clause-names
+split-requires-clause-names c = short_names SOURCE c.args.text.now c.in_ok-source.source c.in_ok-source.ensures.circuit
+
+pub returns-in_err-subject-clause-fault : goal.returns-in_err-subject-clause-fault
+returns-in_err-subject-clause-fault c =
+    let p = err_from_is_err_and c.from_residual-in_err-subject.result c.from_residual-in_err-subject.ensures.1 in
+    rw (p.1, p.2)
+    (map_fault_of c.args.k c.args.text.now c.in_ok-source.source _ c.in_ok-source.ensures.circuit c.in_err-subject.ensures.fault)
 
 pub returns-clause-maps : goal.returns-clause-maps
 returns-clause-maps c =
-    let narrow : widest c.in_ok-source.source.drives ≤ c.args.k = omega (arith, c.if-widest-from.false, c.widest.ensures.pins, c.from.ensures) in
-    maps_of c.args.k c.args.text.now c.in_ok-source.source c.in_ok-mapped_of.field-0 c.in_ok-source.ensures.circuit c.widest.ensures.sound narrow c.in_ok-mapped_of.ensures
+    maps_of c.args.k c.args.text.now c.in_ok-source.source c.in_ok-subject.subject c.in_ok-mapped_of.field-0 c.in_ok-source.ensures.circuit
+    c.in_ok-source.ensures.sound c.in_ok-subject.ensures.subject c.in_ok-mapped_of.ensures
