@@ -9,21 +9,10 @@
 #
 # A program crate is made in a temporary repository beside copies of the crates that it stands on.
 set -eu
-here=$(cd "$(dirname "$0")/.." && pwd)
-work=$(mktemp -d)
-trap 'rm -rf "$work"' EXIT
-mkdir -p "$work/crates"
-for crate in tm_bits tm_flow; do
-    mkdir "$work/crates/$crate"
-    (cd "$here/crates/$crate" && tar cf - --exclude=./out .) | tar xf - -C "$work/crates/$crate"
-done
-cp "$here/HANDLES" "$work/"
-cat >"$work/crates.txt" <<'END'
-tm_bits: thiserror
-tm_flow: tm_bits indexmap
-cuts: tm_flow tm_bits
-END
-bench="$work/crates/cuts"
+. "$(dirname "$0")/repository.sh"
+repository tm_bits tm_flow
+echo "cuts: tm_flow tm_bits" >>crates.txt
+bench=$PWD/crates/cuts
 mkdir -p "$bench/src" "$bench/specs" "$bench/proofs"
 
 cat >"$bench/specs/Lib.antt" <<'END'

@@ -8,22 +8,10 @@
 #
 # A program crate is made in a temporary repository beside copies of the crates that it stands on.
 set -eu
-here=$(cd "$(dirname "$0")/.." && pwd)
-work=$(mktemp -d)
-trap 'rm -rf "$work"' EXIT
-mkdir -p "$work/crates"
-for crate in tm_bits tm_circuit tm_twins; do
-    mkdir "$work/crates/$crate"
-    (cd "$here/crates/$crate" && tar cf - --exclude=./out .) | tar xf - -C "$work/crates/$crate"
-done
-cp "$here/HANDLES" "$work/"
-cat >"$work/crates.txt" <<'END'
-tm_bits: thiserror
-tm_circuit: tm_bits smallvec indexmap thiserror
-tm_twins: tm_bits tm_circuit smallvec
-twin_times: tm_bits tm_circuit tm_twins
-END
-bench="$work/crates/twin_times"
+. "$(dirname "$0")/repository.sh"
+repository tm_bits tm_circuit tm_twins
+echo "twin_times: tm_bits tm_circuit tm_twins" >>crates.txt
+bench=$PWD/crates/twin_times
 mkdir -p "$bench/src" "$bench/specs" "$bench/proofs"
 : >"$bench/specs/Lib.antt"
 : >"$bench/proofs/Lib.antt"
