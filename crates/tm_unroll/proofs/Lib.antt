@@ -15,3 +15,5 @@ pub mod AscentLemmas
 pub mod VerdictLemmas
 pub mod PlaceLemmas
 pub mod TurnLemmas
+pub mod ChoiceLemmas
+pub mod PeriodLemmas

@@ -1,11 +1,12 @@
 // Laws of nodes and mappings, over all sound circuits, as every built circuit is: each function does nothing, and its
 // contract is the law.
 
-ghost use Rattle.std.specs.Prelude.{ℕ, ◌≤◌, List};
+ghost use Rattle.std.specs.Prelude.{◌≡◌, ℕ, ◌≤◌, List};
 ghost use Rattle.tm_circuit.specs.Plain.{Plain, widest};
 ghost use Rattle.tm_circuit.specs.Sound.{IsSound};
 ghost use Rattle.tm_unroll.specs.Mappings.{Table, IsLawful, IsLawfulFrom};
 ghost use Rattle.tm_unroll.specs.Faults.{HasOneFault};
+ghost use Rattle.tm_unroll.specs.Chains.{IsPeriodOf};
 ghost use Rattle.tm_unroll.specs.Falls.{WalksFall, HasNoRepeats};
 ghost use Rattle.tm_unroll.specs.Lags.{LagsArePaid};
 ghost use Rattle.tm_unroll.specs.Own.{OwnTablesServe};
@@ -19,6 +20,13 @@ pub fn walks_end()
 pub fn chains_end()
     ensures { (base : ℕ) (need : ℕ → ℕ) (c : Plain) (k d : ℕ) (tables : List Table) → IsSound c
         → IsLawfulFrom base need c k d tables → HasNoRepeats tables }
+{}
+
+/// Every lawful mapping has a period, and no tables have two.
+pub fn one_period()
+    ensures some { (base : ℕ) (need : ℕ → ℕ) (c : Plain) (k d : ℕ) (tables : List Table) → IsSound c
+        → IsLawfulFrom base need c k d tables → (p : ℕ) × IsPeriodOf tables p }
+    ensures one { (tables : List Table) (p q : ℕ) → IsPeriodOf tables p → IsPeriodOf tables q → p ≡ q }
 {}
 
 /// In a lawful mapping a lag is at most the number of latches on each path back from its gate to an input.
