@@ -10,24 +10,13 @@ Each figure is the least processor time of RUNS runs (5 unless given), less that
 
 import os
 import random
-import subprocess
-import sys
 import tempfile
 
-from first_path import PROGRAM, processor_seconds, random_circuit
+from first_path import random_circuit
+from timing import runs_wanted, seconds
 
 GATES = 20_000
 STEPS = 1_000
-
-
-def seconds(words, runs):
-    """The least processor time of a run with these words, which has to end with status 0."""
-    best = float("inf")
-    for _ in range(runs):
-        begin = processor_seconds()
-        subprocess.run([PROGRAM, *words], check=True, stdout=subprocess.DEVNULL)
-        best = min(best, processor_seconds() - begin)
-    return best
 
 
 def written(folder, name, text):
@@ -56,9 +45,7 @@ def wide_gate(rows):
 
 
 def main():
-    if not os.path.exists(PROGRAM):
-        sys.exit("build the program first: ./turbomap map 2 0 examples/toggle.blif out.blif")
-    runs = int(sys.argv[1]) if len(sys.argv) > 1 else 5
+    runs = runs_wanted()
     with tempfile.TemporaryDirectory() as folder:
         out = os.path.join(folder, "out")
         signals = GATES * 10 // 7

@@ -8,13 +8,10 @@ Each figure is the least processor time of RUNS runs (5 unless given), less that
 
 import os
 import random
-import resource
-import subprocess
-import sys
 import tempfile
 
-TOP = os.path.dirname(os.path.dirname(os.path.abspath(__file__)))
-PROGRAM = os.path.join(TOP, "crates", "turbomap", "out", "turbomap")
+from timing import runs_wanted, seconds
+
 SIZES = [1_000, 10_000, 100_000]
 
 
@@ -44,31 +41,13 @@ def random_circuit(signals):
     return "\n".join(lines + bodies + [".end", ""])
 
 
-def processor_seconds():
-    """What the programs that have ended took of the processor, in the program and in the system."""
-    used = resource.getrusage(resource.RUSAGE_CHILDREN)
-    return used.ru_utime + used.ru_stime
-
-
-def seconds(path, out, runs):
-    """The least processor time of a run, which has to end with status 0."""
-    best = float("inf")
-    for _ in range(runs):
-        begin = processor_seconds()
-        subprocess.run([PROGRAM, "map", "2", "0", path, out], check=True, stdout=subprocess.DEVNULL)
-        best = min(best, processor_seconds() - begin)
-    return best
-
-
 def main():
-    if not os.path.exists(PROGRAM):
-        sys.exit("build the program first: ./turbomap map 2 0 examples/toggle.blif out.blif")
-    runs = int(sys.argv[1]) if len(sys.argv) > 1 else 5
+    runs = runs_wanted()
     with tempfile.TemporaryDirectory() as folder:
         out = os.path.join(folder, "out.blif")
         empty = os.path.join(folder, "empty.blif")
         open(empty, "w").close()
-        base = seconds(empty, out, runs)
+        base = seconds(["map", "2", "0", empty, out], runs)
         print("| circuit | " + " | ".join(f"{size:,} signals" for size in SIZES) + " |")
         print("|---|" + "---|" * len(SIZES))
         for name, make in [("chain", chain), ("random", random_circuit)]:
@@ -77,7 +56,8 @@ def main():
                 path = os.path.join(folder, f"{name}-{size}.blif")
                 with open(path, "w") as text:
                     text.write(make(size))
-                cells.append(f"{(seconds(path, out, runs) - base) / size * 1e6:.2f}")
+                took = seconds(["map", "2", "0", path, out], runs) - base
+                cells.append(f"{took / size * 1e6:.2f}")
             print(f"| {name} | " + " | ".join(cells) + " |")
 
 

@@ -7,13 +7,10 @@ Each figure is the least processor time of RUNS runs (5 unless given).
 """
 
 import os
-import resource
-import subprocess
-import sys
 import tempfile
 
-TOP = os.path.dirname(os.path.dirname(os.path.abspath(__file__)))
-PROGRAM = os.path.join(TOP, "crates", "turbomap", "out", "turbomap")
+from timing import runs_wanted, seconds
+
 
 
 def comments(size):
@@ -47,25 +44,8 @@ CASES = [
 ]
 
 
-def processor_seconds():
-    """What the programs that have ended took of the processor, in the program and in the system."""
-    used = resource.getrusage(resource.RUSAGE_CHILDREN)
-    return used.ru_utime + used.ru_stime
-
-
-def seconds(path, out, runs):
-    best = float("inf")
-    for _ in range(runs):
-        begin = processor_seconds()
-        subprocess.run([PROGRAM, "map", "2", "0", path, out], check=True, stdout=subprocess.DEVNULL)
-        best = min(best, processor_seconds() - begin)
-    return best
-
-
 def main():
-    if not os.path.exists(PROGRAM):
-        sys.exit("build the program first: ./turbomap map 2 0 examples/toggle.blif out.blif")
-    runs = int(sys.argv[1]) if len(sys.argv) > 1 else 5
+    runs = runs_wanted()
     with tempfile.TemporaryDirectory() as folder:
         out = os.path.join(folder, "out.blif")
         print("| text | smaller | larger |\n|---|---|---|")
@@ -76,7 +56,8 @@ def main():
                 with open(path, "w") as text:
                     text.write(make(size))
                 kilobytes = os.path.getsize(path) / 1000
-                cells.append(f"{seconds(path, out, runs) / kilobytes * 1e6:.2f}")
+                took = seconds(["map", "2", "0", path, out], runs)
+                cells.append(f"{took / kilobytes * 1e6:.2f}")
             print(f"| {name} | {cells[0]} | {cells[1]} |")
 
 

@@ -1,0 +1,32 @@
+"""What the benches share: the proved program, and the least processor time of a run of it."""
+
+import os
+import resource
+import subprocess
+import sys
+
+TOP = os.path.dirname(os.path.dirname(os.path.abspath(__file__)))
+PROGRAM = os.path.join(TOP, "crates", "turbomap", "out", "turbomap")
+
+
+def processor_seconds():
+    """What the programs that have ended took of the processor, in the program and in the system."""
+    used = resource.getrusage(resource.RUSAGE_CHILDREN)
+    return used.ru_utime + used.ru_stime
+
+
+def seconds(words, runs):
+    """The least processor time of a run with these words, which has to end with status 0."""
+    best = float("inf")
+    for _ in range(runs):
+        begin = processor_seconds()
+        subprocess.run([PROGRAM, *words], check=True, stdout=subprocess.DEVNULL)
+        best = min(best, processor_seconds() - begin)
+    return best
+
+
+def runs_wanted():
+    """The number of runs that the command line asks for, 5 unless given; ends where the program isn't built."""
+    if not os.path.exists(PROGRAM):
+        sys.exit("build the program first: ./turbomap map 2 0 examples/toggle.blif out.blif")
+    return int(sys.argv[1]) if len(sys.argv) > 1 else 5
