@@ -4,6 +4,7 @@
 #![tactic(auto)]
 
 pub mod cover;
+pub mod limits;
 pub mod memory;
 pub mod table;
 

@@ -1,6 +1,5 @@
 -- A signal has one source.
-use Rattle.std.proofs.Common.{◌≡◌, ℕ, zero, suc, ◌+◌, ◌<◌, ◌≤◌, inl, inr, true, false, List, refl, sym, ◌∙◌, ap, subst, arith, zero-add, suc-add, ◌-◌}
-use Rattle.std.specs.Prelude.{IsTrue}
+use Rattle.std.proofs.Common.{◌≡◌, ℕ, zero, suc, ◌+◌, ◌≤◌, inl, inr, true, false, List, refl, sym, ◌∙◌, ap, subst, arith, zero-add, suc-add, ◌-◌}
 use Rattle.std.proofs.lemmas.Bool.{cases_lt}
 use Rattle.tm_circuit.specs.declared.sources.Source.{Source}
 use Rattle.tm_circuit.specs.declared.sources.Source.TheVariants.{Input, Gate, Ring}

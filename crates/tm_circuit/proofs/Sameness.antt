@@ -1,20 +1,15 @@
 -- Same is an equivalence, and how circuits are shown to be Same.
-use Rattle.std.proofs.Common.{◌≡◌, ℕ, zero, suc, ◌<◌, ◌≤◌, Bool, true, false, cond, get_or, List, [], ◌∷◌, map, length, refl, sym, ◌∙◌, ap, inl, inr, arith}
+use Rattle.std.proofs.Common.{◌≡◌, ℕ, zero, suc, ◌≤◌, Bool, true, false, cond, get_or, List, [], ◌∷◌, map, length, refl, sym, ◌∙◌, ap, inl, inr, arith}
 use Rattle.std.proofs.lemmas.Bool.{cases_lt}
 use Rattle.std.specs.List.{zip, filter, AllZip}
 use Rattle.std.proofs.lemmas.List.{get_or_past}
 use Rattle.std.proofs.lemmas.List.Elements.{AllZip-get_or, length_all_zip}
 use Rattle.tm_circuit.specs.Plain.{Plain, Drive, input, latch, gate, drive, is_input}
-use Rattle.tm_circuit.specs.Trace.{IsTrace, row_bit, driven, shown}
-use Rattle.tm_circuit.specs.Same.{IsSame, input_names, output_names, IsAlike, IsRewritten}
+use Rattle.tm_circuit.specs.Trace.{IsTrace, row_bit, driven, ObeysAlways}
+use Rattle.tm_circuit.specs.Same.{IsSame, input_names, output_names, IsAlike, IsRewritten, ShowsAlike}
 use Rattle.tm_circuit.specs.Chain.{rank}
 use Rattle.tm_circuit.specs.Sound.{IsSound}
-use Rattle.tm_circuit.proofs.Traces.{IsRankedBy, ranked_from_sound, ObeysAlways, map_agree, one_trace_lem, some_trace, endless, endless_obeys, endless_is_trace}
-
--- The second circuit has some trace with the outputs that the table `t` of the first has.
-abbrev pub ShowsAlike : Plain → Plain → List (List Bool) → (ℕ → ℕ → Bool) → Type 0
-ShowsAlike a b rows t =
-    (u : ℕ → ℕ → Bool) × IsTrace b rows u × ((step : ℕ) → step < length rows → shown a t step ≡ shown b u step)
+use Rattle.tm_circuit.proofs.Traces.{IsRankedBy, ranked_from_sound, map_agree, one_trace_lem, some_trace, endless, endless_obeys, endless_is_trace}
 
 -- The general tool: circuits are Same where each trace of the first gives some trace of the second with the same
 -- outputs. That the second has no other trace does the rest.
@@ -148,3 +143,13 @@ sound_same_through a b c sound = same_through a b c (rank b) (ranked_from_sound 
 
 pub sound_rewritten_same : (a b : Plain) → IsSound b → IsRewritten a b → IsSame a b
 sound_rewritten_same a b sound = rewritten_same a b (rank b) (ranked_from_sound b sound)
+
+pub sound_same_by_trace : (a b : Plain) → IsSound b → input_names a ≡ input_names b → output_names a ≡ output_names b
+    → ((rows : List (List Bool)) (t : ℕ → ℕ → Bool) → IsTrace a rows t → ShowsAlike a b rows t) → IsSame a b
+sound_same_by_trace a b sound = same_by_trace a b (rank b) (ranked_from_sound b sound)
+
+pub sound_same_by_endless : (a b : Plain) → IsSound a → IsSound b → input_names a ≡ input_names b
+    → output_names a ≡ output_names b
+    → ((rows : List (List Bool)) (t : ℕ → ℕ → Bool) → ObeysAlways a (row_bit rows) t → ShowsAlike a b rows t) → IsSame a b
+sound_same_by_endless a b sound_a sound_b =
+    same_by_endless a b (rank a) (rank b) (ranked_from_sound a sound_a) (ranked_from_sound b sound_b)

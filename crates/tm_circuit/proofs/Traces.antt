@@ -2,7 +2,7 @@
 use Rattle.std.proofs.Common.{◌≡◌, ℕ, zero, suc, ◌<◌, Bool, false, List, [], ◌∷◌, map, length, Contains, refl, sym, ◌∙◌, ap, subst, arith}
 use Rattle.tm_bits.specs.Rows.{Rows, holds}
 use Rattle.tm_circuit.specs.Plain.{Plain, drive, Drive, input, latch, gate}
-use Rattle.tm_circuit.specs.Trace.{IsTrace, row_bit, driven, HasOneTrace}
+use Rattle.tm_circuit.specs.Trace.{IsTrace, row_bit, driven, HasOneTrace, ObeysAlways, HasOneRun}
 use Rattle.tm_circuit.specs.Chain.{RisesTo, rank}
 use Rattle.tm_circuit.specs.Sound.{IsSound}
 
@@ -14,10 +14,6 @@ pub record IsRankedBy (c : Plain) (rank : ℕ → ℕ) : Type 0 where
 -- A table obeys the drives at the steps below `steps`, where the inputs are given bits by signal and step.
 abbrev pub Obeys : Plain → (ℕ → ℕ → Bool) → ℕ → (ℕ → ℕ → Bool) → Type 0
 Obeys c given steps t = (s step : ℕ) → step < steps → t s step ≡ driven (drive c s) (given s step) t step
-
--- A table obeys the drives at every step.
-abbrev pub ObeysAlways : Plain → (ℕ → ℕ → Bool) → (ℕ → ℕ → Bool) → Type 0
-ObeysAlways c given t = (s step : ℕ) → t s step ≡ driven (drive c s) (given s step) t step
 
 -- What holds at the pins of a drive, where it is a gate.
 abbrev pub AtPins : Drive → (ℕ → Type 0) → Type 0
@@ -170,3 +166,10 @@ pub has_one_trace : (c : Plain) → IsSound c → HasOneTrace c
 has_one_trace c sound =
     let ranked : IsRankedBy c (rank c) = ranked_from_sound c sound in
     record { some = some_trace c (rank c) ranked; one = one_trace_lem c (rank c) ranked }
+
+pub has_one_run : (c : Plain) → IsSound c → HasOneRun c
+has_one_run c sound = record {
+  some = λ given. (endless c (rank c) given, endless_obeys c (rank c) given (ranked_from_sound c sound));
+  one = λ given t u obeys_t obeys_u s step.
+      one_table c (rank c) given (suc step) t u (ranked_from_sound c sound) (λ x n within. obeys_t x n) (λ x n within. obeys_u x n) step (omega arith) s;
+}

@@ -37,3 +37,8 @@ pub record IsRewritten (a b : Plain) : Type 0 where
   pub names : a.names ≡ b.names
   pub outputs : a.outputs ≡ b.outputs
   pub drives : AllZip IsAlike a.drives b.drives
+
+-- The second circuit has some trace with the outputs that the table `t` of the first has.
+abbrev pub ShowsAlike : Plain → Plain → List (List Bool) → (ℕ → ℕ → Bool) → Type 0
+ShowsAlike a b rows t =
+    (u : ℕ → ℕ → Bool) × IsTrace b rows u × ((step : ℕ) → step < length rows → shown a t step ≡ shown b u step)

@@ -31,3 +31,13 @@ pub record HasOneTrace (c : Plain) : Type 0 where
   pub some : (rows : List (List Bool)) → (t : ℕ → ℕ → Bool) × IsTrace c rows t
   pub one : (rows : List (List Bool)) (t u : ℕ → ℕ → Bool) → IsTrace c rows t → IsTrace c rows u → (s step : ℕ)
       → step < length rows → t s step ≡ u s step
+
+-- The table `t` obeys the drives at every step for ever, where the inputs are given bits by signal and step.
+abbrev pub ObeysAlways : Plain → (ℕ → ℕ → Bool) → (ℕ → ℕ → Bool) → Type 0
+ObeysAlways c given t = (s step : ℕ) → t s step ≡ driven (drive c s) (given s step) t step
+
+-- Whatever bits the inputs are given, there is such a table, and any two are equal.
+pub record HasOneRun (c : Plain) : Type 0 where
+  pub some : (given : ℕ → ℕ → Bool) → (t : ℕ → ℕ → Bool) × ObeysAlways c given t
+  pub one : (given t u : ℕ → ℕ → Bool) → ObeysAlways c given t → ObeysAlways c given u → (s step : ℕ)
+      → t s step ≡ u s step
