@@ -52,5 +52,31 @@ expect "status of a missing file" 3 $?
 expect "line of a missing file" "cannot read $folder/missing.blif" "$(cat "$folder/said")"
 [ ! -e "$folder/none.blif" ] || { echo "launcher: a file was written"; failed=1; }
 
-[ "$failed" -eq 0 ] && echo "launcher: 12 checks passed"
+# In a copy with an `rt` that only makes a file: built where the program is missing or a source is newer, and not otherwise.
+copy=$folder/copy
+mkdir -p "$copy/crates/turbomap/src" "$folder/bin"
+cp turbomap "$copy/turbomap"
+touch -d '2 hours ago' "$copy/crates.txt" "$copy/crates/turbomap/src/main.rt"
+cat >"$folder/bin/rt" <<'END'
+#!/bin/sh
+[ -e refuse ] && exit 1
+mkdir -p out && printf '#!/bin/sh\necho ran\n' >out/turbomap && chmod +x out/turbomap
+END
+chmod +x "$folder/bin/rt"
+launch() { PATH=$folder/bin:$PATH "$copy/turbomap" 2>"$folder/built"; }
+expect "a missing program" "ran" "$(launch)"
+expect "the build of a missing program" 1 "$(grep -c building "$folder/built")"
+touch -d '1 hour ago' "$copy/crates/turbomap/out/turbomap"
+expect "a program that is newer" "ran" "$(launch)"
+expect "no build of a newer program" 0 "$(grep -c building "$folder/built")"
+touch -d '1 hour ago' "$copy/crates/turbomap/out/launcher-built"
+touch "$copy/crates/turbomap/src/main.rt"
+expect "a newer source" "ran" "$(launch)"
+expect "the build for a newer source" 1 "$(grep -c building "$folder/built")"
+touch -d '1 hour ago' "$copy/crates/turbomap/out/turbomap" "$copy/crates/turbomap/out/launcher-built"
+touch "$copy/crates/turbomap/refuse" "$copy/crates/turbomap/src/main.rt"
+launch >/dev/null
+expect "the status where it can't be built" 9 $?
+
+[ "$failed" -eq 0 ] && echo "launcher: 19 checks passed"
 exit "$failed"
