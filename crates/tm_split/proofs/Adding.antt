@@ -14,7 +14,8 @@ use Rattle.tm_bits.specs.Rows.{Rows, IsEven}
 use Rattle.tm_split.specs.Pieces.{is_empty, rows_of, pieces_of, pieces_of_rows}
 use Rattle.tm_split.specs.Names.{piece_names}
 use Rattle.tm_split.specs.Subject.{piece_drive, gates_of}
-use Rattle.tm_split.specs.Making.{IsWireOf, IsWired, IsReadOf, AreWired, part_drive, part_names, part_drives}
+use Rattle.tm_parts.specs.Parts.{part_drive, part_names, part_drives}
+use Rattle.tm_split.specs.Making.{IsWireOf, IsWired, IsReadOf, AreWired}
 use Rattle.tm_split.proofs.Whole.{pieces_wired}
 use Rattle.tm_split.proofs.Literals.{rows_of_literals, rows_wired_by}
 

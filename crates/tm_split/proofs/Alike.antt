@@ -10,13 +10,11 @@ use Rattle.tm_bits.specs.Rows.{Rows, holds}
 use Rattle.tm_circuit.specs.Plain.{Plain, Drive, input, latch, gate, drive, is_input, input_count, latch_count}
 use Rattle.tm_circuit.specs.Trace.{IsTrace, row_bit, driven, shown}
 use Rattle.tm_circuit.specs.Sound.{IsSound, ReadsBelow, IsPlaced}
-use Rattle.tm_circuit.specs.Same.{IsSame, input_names, output_names}
-use Rattle.tm_circuit.specs.Chain.{rank}
-use Rattle.tm_circuit.proofs.Traces.{ranked_from_sound}
-use Rattle.tm_circuit.proofs.Sameness.{same_by_trace, same_back}
+use Rattle.tm_circuit.specs.Same.{IsSame, ShowsAlike, input_names, output_names}
 use Rattle.tm_split.specs.declared.piece.Piece.{Piece}
 use Rattle.tm_split.specs.Pieces.{pieces_of}
-use Rattle.tm_split.specs.Names.{joiner_of, piece_names}
+use Rattle.tm_parts.specs.Runs.{joiner_of}
+use Rattle.tm_split.specs.Names.{tilde, piece_names}
 use Rattle.tm_split.specs.Subject.{extra, first_number, number, gates_of, drives_for, names_for, in_places, drives_at, names_at, subject_of}
 use Rattle.tm_split.proofs.Numbers.{first_next, length-subject_of, length-drives_for, length-names_for, length-gates_of, some_pieces}
 use Rattle.tm_split.proofs.Places.{IsAt, places_at, slice_get_at, number_past}
@@ -213,9 +211,9 @@ inputs_in_places k c front [] t (d ∷ ds) whole here same = absurd (omega arith
 inputs_in_places k c front (name ∷ names) t [] whole here same = absurd (omega arith)
 inputs_in_places k c front (name ∷ names) t (d ∷ ds) whole here same =
     let at_t : get_or c.names t [] ≡ name = ap (λ ns. get_or ns t []) whole ∙ get_or_at front name names [] t here in
-    let sizes : length (names_at k c t d) ≡ length (drives_at k c t d) = length-names_for k (get_or c.names t []) (joiner_of c) d ∙ sym (length-drives_for k (number k c.drives) (first_number k c.drives t) d) in
+    let sizes : length (names_at k c t d) ≡ length (drives_at k c t d) = length-names_for k (get_or c.names t []) (joiner_of tilde c) d ∙ sym (length-drives_for k (number k c.drives) (first_number k c.drives t) d) in
     let first : input_list (names_at k c t d) (drives_at k c t d) ≡ input_list (name ∷ []) (d ∷ []) =
-    inputs_for k (get_or c.names t []) (joiner_of c) (number k c.drives) (first_number k c.drives t) d ∙ ap (λ n. input_list (n ∷ []) (d ∷ [])) at_t in
+    inputs_for k (get_or c.names t []) (joiner_of tilde c) (number k c.drives) (first_number k c.drives t) d ∙ ap (λ n. input_list (n ∷ []) (d ∷ [])) at_t in
     let next : c.names ≡ (front ++ name ∷ []) ++ names = whole ∙ sym (append_assoc front (name ∷ []) names) in
     let long : length (front ++ name ∷ []) ≡ suc t = omega (arith, length-append front (name ∷ [])) in
     let rest : input_list (in_places (names_at k c) (suc t) ds) (in_places (drives_at k c) (suc t) ds) ≡ input_list names ds = inputs_in_places k c (front ++ name ∷ []) names (suc t) ds next long (omega arith) in
@@ -232,13 +230,13 @@ subject_inputs k c named = inputs_in_places k c [] c.names 0 c.drives refl refl 
 pub own_name : (k : ℕ) (c : Plain) (s : ℕ) → s < length c.drives → get_or (in_places (names_at k c) 0 c.drives) (number k c.drives s) [] ≡ get_or c.names s []
 own_name k c s within =
     let (d, is) = slice_get_at c.drives s within in
-    let sizes : (t : ℕ) (e : Drive) → length (names_at k c t e) ≡ suc (extra k e) = λ t e. length-names_for k (get_or c.names t []) (joiner_of c) e in
+    let sizes : (t : ℕ) (e : Drive) → length (names_at k c t e) ≡ suc (extra k e) = λ t e. length-names_for k (get_or c.names t []) (joiner_of tilde c) e in
     let (step, itself) = first_next k c.drives s d is in
     let there : get_or (in_places (names_at k c) 0 c.drives) ((s + sum_by (extra k) (take s c.drives)) + extra k d) [] ≡ get_or (names_at k c (0 + s) d) (extra k d) [] = places_at (names_at k c) (extra k) sizes 0 c.drives s (extra k d) d [] is (omega arith) in
     let place : 0 + s ≡ s = omega arith in
     let moved : get_or (in_places (names_at k c) 0 c.drives) (number k c.drives s) [] ≡ get_or (names_at k c s d) (extra k d) [] =
     ap (λ n. get_or (in_places (names_at k c) 0 c.drives) n []) itself ∙ (there ∙ ap (λ n. get_or (names_at k c n d) (extra k d) []) place) in
-    elim (names_for_at k (get_or c.names s []) (joiner_of c) d (extra k d) [] (omega arith)) [
+    elim (names_for_at k (get_or c.names s []) (joiner_of tilde c) d (extra k d) [] (omega arith)) [
       | inl (old, last) ↦ moved ∙ old
       | inr (less, new) ↦ absurd (omega arith)
     ]
@@ -260,8 +258,12 @@ subject_shown k c u step = map_twice (λ s. u s step) (number k c.drives) c.outp
 
 -- ---- the whole
 
-pub subject_same : (k : ℕ) (c : Plain) → IsSound c → IsSame c (subject_of k c)
-subject_same k c sound =
-    same_back (subject_of k c) c (same_by_trace (subject_of k c) c (rank c) (ranked_from_sound c sound)
-    (subject_inputs k c sound.named) (subject_outputs k c sound.range.outputs)
-    (λ rows u is_u. (read_back k c u, back_trace k c rows u sound is_u, λ step within. subject_shown k c u step)))
+-- Circuits are Same by their traces, as the law says: here of the subject circuit and the circuit.
+pub subject_same : (k : ℕ) (c : Plain)
+    → (input_names (subject_of k c) ≡ input_names c → output_names (subject_of k c) ≡ output_names c
+    → ((rows : List (List Bool)) (t : ℕ → ℕ → Bool) → IsTrace (subject_of k c) rows t → ShowsAlike (subject_of k c) c rows t)
+    → IsSame (subject_of k c) c)
+    → IsSound c → IsSame (subject_of k c) c
+subject_same k c by_traces sound =
+    by_traces (subject_inputs k c sound.named) (subject_outputs k c sound.range.outputs)
+    (λ rows u is_u. (read_back k c u, back_trace k c rows u sound is_u, λ step within. subject_shown k c u step))

@@ -1,5 +1,5 @@
 -- One more signal among the parts.
-use Rattle.std.proofs.Common.{◌≡◌, ℕ, suc, ◌+◌, ◌-◌, ◌<◌, ◌≤◌, ◌⊎◌, inl, inr, Bool, true, cond, ltb, Option, List, [], ◌∷◌, ◌++◌, map, take, get_or, length, Some, slice_get, refl, sym, ◌∙◌, ap, append_assoc, arith}
+use Rattle.std.proofs.Common.{◌≡◌, ℕ, suc, ◌+◌, ◌-◌, ◌<◌, ◌≤◌, ◌⊎◌, inl, inr, Bool, true, cond, ltb, Option, List, [], ◌∷◌, ◌++◌, map, take, get_or, length, Some, slice_get, refl, sym, ◌∙◌, ap, subst, append_assoc, arith}
 use Rattle.std.specs.Prelude.{All, slice_index, slice_index_or, if◌then◌else◌}
 use Rattle.std.proofs.lemmas.List.{append-nil, map-append, take_all, take_more, length-take-le}
 use Rattle.std.proofs.lemmas.List.Elements.{All-head, All-tail}
@@ -16,75 +16,16 @@ use Rattle.tm_split.specs.declared.piece.Wire.TheVariants.{Pin, Made}
 use Rattle.tm_split.specs.declared.piece.Piece.{Piece}
 use Rattle.tm_split.specs.declared.piece.Piece.TheVariants.{NoRow, BareRow, Alone, Both, Either}
 use Rattle.tm_split.specs.Pieces.{is_empty, rows_of, pieces_of}
-use Rattle.tm_split.specs.Names.{joiner_of}
+use Rattle.tm_parts.specs.Parts.{HasFrame, HasFirstSignals}
+use Rattle.tm_parts.specs.Runs.{joiner_of}
+use Rattle.tm_parts.proofs.Growing.{one_more, more_gates}
+use Rattle.tm_split.specs.Names.{tilde}
 use Rattle.tm_split.specs.Counts.{AreNumbers}
 use Rattle.tm_split.specs.Subject.{extra, first_number, number, wire_number, piece_drive, gates_of, drives_for, names_for, in_places, names_at, drives_at, subject_of}
-use Rattle.tm_split.specs.Making.{IsWireOf, IsWired, AreWired, Gains, HasFrame, HasFirstSignals, part_names, part_drives}
+use Rattle.tm_split.specs.Making.{IsWireOf, IsWired, AreWired, GainsPlace}
 use Rattle.tm_split.proofs.Whole.{pieces_wired}
 use Rattle.tm_split.proofs.Literals.{rows_of_literals, rows_wired_by}
 use Rattle.tm_split.proofs.Numbers.{first_next, first_within}
-
--- ---- more elements at the end of one of three lists
-
-at_first : {X : Type 0} (a b c : List X) (x : X) → b ≡ [] → c ≡ []
-    → ((a ++ x ∷ []) ++ b) ++ c ≡ ((a ++ b) ++ c) ++ x ∷ []
-at_first a b c x no_b no_c = rw (no_b, no_c) (simp append-nil)
-
-at_second : {X : Type 0} (a b c : List X) (x : X) → c ≡ [] → (a ++ (b ++ x ∷ [])) ++ c ≡ ((a ++ b) ++ c) ++ x ∷ []
-at_second a b c x no_c = rw no_c (simp (append-nil, append_assoc))
-
-at_third : {X : Type 0} (a b c xs : List X) → (a ++ b) ++ (c ++ xs) ≡ ((a ++ b) ++ c) ++ xs
-at_third a b c xs = sym (append_assoc (a ++ b) c xs)
-
--- ---- the names and drives that parts spell
-
-abbrev names_of : List (List ℕ) → List LatchPart → List GatePart → List (List ℕ)
-names_of inputs latches gates = inputs ++ map (λ l. l.name) latches ++ part_names gates
-
-abbrev drives_of : List (List ℕ) → List LatchPart → List GatePart → List Drive
-drives_of inputs latches gates = map (λ _. input) inputs ++ map (λ l. latch l.next l.init) latches ++ part_drives gates
-
-names_of-input : (inputs inputs' : List (List ℕ)) (latches latches' : List LatchPart) (gates gates' : List GatePart) (name : List ℕ)
-    → inputs' ≡ inputs ++ name ∷ [] → latches' ≡ latches → gates' ≡ gates → latches ≡ [] → gates ≡ []
-    → names_of inputs' latches' gates' ≡ names_of inputs latches gates ++ name ∷ []
-names_of-input inputs inputs' latches latches' gates gates' name more same_latches same_gates no_latch no_gate =
-    rw (more, same_latches, same_gates) (at_first inputs (map (λ l. l.name) latches) (part_names gates) name (ap (λ xs. map (λ l. l.name) xs) no_latch) (ap (λ xs. part_names xs) no_gate))
-
-drives_of-input : (inputs inputs' : List (List ℕ)) (latches latches' : List LatchPart) (gates gates' : List GatePart) (name : List ℕ)
-    → inputs' ≡ inputs ++ name ∷ [] → latches' ≡ latches → gates' ≡ gates → latches ≡ [] → gates ≡ []
-    → drives_of inputs' latches' gates' ≡ drives_of inputs latches gates ++ input ∷ []
-drives_of-input inputs inputs' latches latches' gates gates' name more same_latches same_gates no_latch no_gate =
-    rw (more, same_latches, same_gates, map-append (λ (_ : List ℕ). input) inputs (name ∷ [])) (at_first (map (λ _. input) inputs) (map (λ l. latch l.next l.init) latches) (part_drives gates) input (ap (λ xs. map (λ l. latch l.next l.init) xs) no_latch) (ap (λ xs. part_drives xs) no_gate))
-
-names_of-latch : (inputs inputs' : List (List ℕ)) (latches latches' : List LatchPart) (gates gates' : List GatePart) (part : LatchPart)
-    → inputs' ≡ inputs → latches' ≡ latches ++ part ∷ [] → gates' ≡ gates → gates ≡ []
-    → names_of inputs' latches' gates' ≡ names_of inputs latches gates ++ part.name ∷ []
-names_of-latch inputs inputs' latches latches' gates gates' part same_inputs more same_gates no_gate =
-    rw (same_inputs, more, same_gates, map-append (λ (l : LatchPart). l.name) latches (part ∷ [])) (at_second inputs (map (λ l. l.name) latches) (part_names gates) part.name (ap (λ xs. part_names xs) no_gate))
-
-drives_of-latch : (inputs inputs' : List (List ℕ)) (latches latches' : List LatchPart) (gates gates' : List GatePart) (part : LatchPart)
-    → inputs' ≡ inputs → latches' ≡ latches ++ part ∷ [] → gates' ≡ gates → gates ≡ []
-    → drives_of inputs' latches' gates' ≡ drives_of inputs latches gates ++ latch part.next part.init ∷ []
-drives_of-latch inputs inputs' latches latches' gates gates' part same_inputs more same_gates no_gate =
-    rw (same_inputs, more, same_gates, map-append (λ (l : LatchPart). latch l.next l.init) latches (part ∷ [])) (at_second (map (λ _. input) inputs) (map (λ l. latch l.next l.init) latches) (part_drives gates) (latch part.next part.init) (ap (λ xs. part_drives xs) no_gate))
-
-names_of-gate : (inputs inputs' : List (List ℕ)) (latches latches' : List LatchPart) (gates gates' : List GatePart) (more : List (List ℕ))
-    → inputs' ≡ inputs → latches' ≡ latches → part_names gates' ≡ part_names gates ++ more
-    → names_of inputs' latches' gates' ≡ names_of inputs latches gates ++ more
-names_of-gate inputs inputs' latches latches' gates gates' more same_inputs same_latches gained =
-    ap (λ xs. xs ++ map (λ l. l.name) latches' ++ part_names gates') same_inputs
-    ∙ (ap (λ xs. inputs ++ map (λ l. l.name) xs ++ part_names gates') same_latches
-    ∙ (ap (λ xs. inputs ++ map (λ l. l.name) latches ++ xs) gained
-    ∙ at_third inputs (map (λ l. l.name) latches) (part_names gates) more))
-
-drives_of-gate : (inputs inputs' : List (List ℕ)) (latches latches' : List LatchPart) (gates gates' : List GatePart) (more : List Drive)
-    → inputs' ≡ inputs → latches' ≡ latches → part_drives gates' ≡ part_drives gates ++ more
-    → drives_of inputs' latches' gates' ≡ drives_of inputs latches gates ++ more
-drives_of-gate inputs inputs' latches latches' gates gates' more same_inputs same_latches gained =
-    ap (λ xs. map (λ _. input) xs ++ map (λ l. latch l.next l.init) latches' ++ part_drives gates') same_inputs
-    ∙ (ap (λ xs. map (λ _. input) inputs ++ map (λ l. latch l.next l.init) xs ++ part_drives gates') same_latches
-    ∙ (ap (λ xs. map (λ _. input) inputs ++ map (λ l. latch l.next l.init) latches ++ xs) gained
-    ∙ at_third (map (λ _. input) inputs) (map (λ l. latch l.next l.init) latches) (part_drives gates) more))
 
 -- ---- one place more
 
@@ -118,64 +59,35 @@ pub record IsNext (k : ℕ) (c : Plain) (s : ℕ) (name : List ℕ) (d : Drive) 
   pub names : names_for k name joiner d ≡ names_at k c s d
   pub drives : drives_for k (slice_index numbers) (own - extra k d) d ≡ drives_at k c s d
 
-names_more : (k : ℕ) (c : Plain) (s : ℕ) (name : List ℕ) (d : Drive) (joiner numbers : List ℕ) (own : ℕ) (names names' : List (List ℕ))
-    → IsNext k c s name d joiner numbers own
-    → names ≡ in_places (names_at k c) 0 (take s c.drives) → names' ≡ names ++ names_for k name joiner d
-    → names' ≡ in_places (names_at k c) 0 (take (s + 1) c.drives)
-names_more k c s name d joiner numbers own names names' next so_far more =
-    more ∙ (ap (λ xs. xs ++ names_for k name joiner d) so_far
-    ∙ (ap (λ xs. in_places (names_at k c) 0 (take s c.drives) ++ xs) next.names
-    ∙ sym (places_more (names_at k c) c.drives s d next.drive_is)))
+-- The parts have what stands in the places of the first signals, so many.
+abbrev pub HasFirstPlaces : ℕ → Plain → Parts → ℕ → Type 0
+HasFirstPlaces k c parts s = HasFirstSignals c (in_places (names_at k c) 0 (take s c.drives)) (in_places (drives_at k c) 0 (take s c.drives)) parts s
 
-drives_more : (k : ℕ) (c : Plain) (s : ℕ) (name : List ℕ) (d : Drive) (joiner numbers : List ℕ) (own : ℕ) (drives drives' : List Drive)
+-- What the places so far and the next one have is what the places have up to it.
+places_with : (k : ℕ) (c : Plain) (new : Parts) (s : ℕ) (name : List ℕ) (d : Drive) (joiner numbers : List ℕ) (own : ℕ)
     → IsNext k c s name d joiner numbers own
-    → drives ≡ in_places (drives_at k c) 0 (take s c.drives) → drives' ≡ drives ++ drives_for k (slice_index numbers) (own - extra k d) d
-    → drives' ≡ in_places (drives_at k c) 0 (take (s + 1) c.drives)
-drives_more k c s name d joiner numbers own drives drives' next so_far more =
-    more ∙ (ap (λ xs. xs ++ drives_for k (slice_index numbers) (own - extra k d) d) so_far
-    ∙ (ap (λ xs. in_places (drives_at k c) 0 (take s c.drives) ++ xs) next.drives
-    ∙ sym (places_more (drives_at k c) c.drives s d next.drive_is)))
-
-none_yet : {X : Type 0} (xs : List X) (bound s : ℕ) → (xs ≡ []) ⊎ (bound ≤ s) → s < bound → xs ≡ []
-none_yet xs bound s either below = elim either [ inl none ↦ none | inr late ↦ absurd (omega arith) ]
+    → HasFirstSignals c (in_places (names_at k c) 0 (take s c.drives) ++ names_for k name joiner d) (in_places (drives_at k c) 0 (take s c.drives) ++ drives_for k (slice_index numbers) (own - extra k d) d) new (s + 1)
+    → HasFirstPlaces k c new (s + 1)
+places_with k c new s name d joiner numbers own next has =
+    let names : in_places (names_at k c) 0 (take s c.drives) ++ names_for k name joiner d ≡ in_places (names_at k c) 0 (take (s + 1) c.drives) =
+    ap (λ xs. in_places (names_at k c) 0 (take s c.drives) ++ xs) next.names ∙ sym (places_more (names_at k c) c.drives s d next.drive_is) in
+    let drives : in_places (drives_at k c) 0 (take s c.drives) ++ drives_for k (slice_index numbers) (own - extra k d) d ≡ in_places (drives_at k c) 0 (take (s + 1) c.drives) =
+    ap (λ xs. in_places (drives_at k c) 0 (take s c.drives) ++ xs) next.drives ∙ sym (places_more (drives_at k c) c.drives s d next.drive_is) in
+    subst (λ (ns : List (List ℕ)). HasFirstSignals c ns (in_places (drives_at k c) 0 (take (s + 1) c.drives)) new (s + 1)) names
+    (subst (λ (ds : List Drive). HasFirstSignals c (in_places (names_at k c) 0 (take s c.drives) ++ names_for k name joiner d) ds new (s + 1)) drives has)
 
 pub one_more_signal : (k : ℕ) (c : Plain) (old new : Parts) (s : ℕ) (name : List ℕ) (d : Drive) (joiner numbers : List ℕ) (own : ℕ)
     → IsNext k c s name d joiner numbers own
-    → HasFirstSignals k c old s → Gains k numbers joiner own old new name d → HasFirstSignals k c new (s + 1)
+    → HasFirstPlaces k c old s → GainsPlace k numbers joiner own old new name d → HasFirstPlaces k c new (s + 1)
 one_more_signal k c old new s name input joiner numbers own next so_far gains =
-    let below : s < input_count c.drives = next.placed in
-    let no_latch : old.latches.items ≡ [] = none_yet old.latches.items (input_count c.drives) s so_far.latches below in
-    let no_gate : old.gates.items ≡ [] = none_yet old.gates.items (input_count c.drives + latch_count c.drives) s so_far.gates (omega arith) in
-    let names = names_of-input old.inputs.items new.inputs.items old.latches.items new.latches.items old.gates.items new.gates.items name gains.0 gains.1 gains.2 no_latch no_gate in
-    let drives = drives_of-input old.inputs.items new.inputs.items old.latches.items new.latches.items old.gates.items new.gates.items name gains.0 gains.1 gains.2 no_latch no_gate in
-    record {
-      names = names_more k c s name input joiner numbers own (circuit_of old).names (circuit_of new).names next so_far.names names;
-      drives = drives_more k c s name input joiner numbers own (circuit_of old).drives (circuit_of new).drives next so_far.drives drives;
-      latches = inl (gains.1 ∙ no_latch);
-      gates = inl (gains.2 ∙ no_gate);
-    }
+    places_with k c new s name input joiner numbers own next
+    (one_more c (in_places (names_at k c) 0 (take s c.drives)) (in_places (drives_at k c) 0 (take s c.drives)) old new s name input next.placed so_far gains)
 one_more_signal k c old new s name (latch to init) joiner numbers own next so_far gains =
-    let part : LatchPart = record { name = name; next = slice_index numbers to; init = init } in
-    let placed : (input_count c.drives ≤ s) × (s < input_count c.drives + latch_count c.drives) = next.placed in
-    let no_gate : old.gates.items ≡ [] = none_yet old.gates.items (input_count c.drives + latch_count c.drives) s so_far.gates placed.1 in
-    let names = names_of-latch old.inputs.items new.inputs.items old.latches.items new.latches.items old.gates.items new.gates.items part gains.0 gains.1 gains.2 no_gate in
-    let drives = drives_of-latch old.inputs.items new.inputs.items old.latches.items new.latches.items old.gates.items new.gates.items part gains.0 gains.1 gains.2 no_gate in
-    record {
-      names = names_more k c s name (latch to init) joiner numbers own (circuit_of old).names (circuit_of new).names next so_far.names names;
-      drives = drives_more k c s name (latch to init) joiner numbers own (circuit_of old).drives (circuit_of new).drives next so_far.drives drives;
-      latches = inr (omega arith);
-      gates = inl (gains.2 ∙ no_gate);
-    }
-one_more_signal k c old new s name (gate pins cover) joiner numbers own next so_far (same_inputs, same_latches, gained_names, gained_drives) =
-    let late : input_count c.drives + latch_count c.drives ≤ s = next.placed in
-    let names = names_of-gate old.inputs.items new.inputs.items old.latches.items new.latches.items old.gates.items new.gates.items (names_for k name joiner (gate pins cover)) same_inputs same_latches gained_names in
-    let drives = drives_of-gate old.inputs.items new.inputs.items old.latches.items new.latches.items old.gates.items new.gates.items (drives_for k (slice_index numbers) (own - extra k (gate pins cover)) (gate pins cover)) same_inputs same_latches gained_drives in
-    record {
-      names = names_more k c s name (gate pins cover) joiner numbers own (circuit_of old).names (circuit_of new).names next so_far.names names;
-      drives = drives_more k c s name (gate pins cover) joiner numbers own (circuit_of old).drives (circuit_of new).drives next so_far.drives drives;
-      latches = inr (omega arith);
-      gates = inr (omega arith);
-    }
+    places_with k c new s name (latch to init) joiner numbers own next
+    (one_more c (in_places (names_at k c) 0 (take s c.drives)) (in_places (drives_at k c) 0 (take s c.drives)) old new s name (latch (slice_index numbers to) init) next.placed so_far gains)
+one_more_signal k c old new s name (gate pins cover) joiner numbers own next so_far gains =
+    places_with k c new s name (gate pins cover) joiner numbers own next
+    (more_gates c (in_places (names_at k c) 0 (take s c.drives)) (names_for k name joiner (gate pins cover)) (in_places (drives_at k c) 0 (take s c.drives)) (drives_for k (slice_index numbers) (own - extra k (gate pins cover)) (gate pins cover)) old new s next.placed so_far gains)
 
 -- ---- numbers that agree
 
@@ -220,7 +132,7 @@ drives_agree k f g first n (gate pins cover) agree reads =
     ∙ ap (λ xs. cond (ltb k (length pins)) (gates_of cover.on g first (pieces_of pins cover)) (gate xs cover ∷ [])) (pins_agree f g n pins agree reads)
 
 pub is_next : (k : ℕ) (c : Plain) (s : ℕ) (name : List ℕ) (d : Drive) (joiner numbers : List ℕ) (own : ℕ)
-    → AreNumbers k c.drives numbers → joiner ≡ joiner_of c → slice_get c.names s ≡ Some name → slice_get c.drives s ≡ Some d
+    → AreNumbers k c.drives numbers → joiner ≡ joiner_of tilde c → slice_get c.names s ≡ Some name → slice_get c.drives s ≡ Some d
     → IsPlaced (input_count c.drives) (latch_count c.drives) s d → ReadsBelow (length c.drives) d → own ≡ slice_index numbers s
     → IsNext k c s name d joiner numbers own
 is_next k c s name d joiner numbers own are joins name_is drive_is placed reads own_is =
@@ -233,7 +145,7 @@ is_next k c s name d joiner numbers own are joins name_is drive_is placed reads 
       name_is = name_is;
       drive_is = drive_is;
       placed = placed;
-      names = ap (λ j. names_for k name j d) joins ∙ ap (λ n. names_for k n (joiner_of c) d) spelled;
+      names = ap (λ j. names_for k name j d) joins ∙ ap (λ n. names_for k n (joiner_of tilde c) d) spelled;
       drives = ap (λ n. drives_for k (slice_index numbers) n d) first ∙ drives_agree k (slice_index numbers) (number k c.drives) (first_number k c.drives s) (length c.drives) d are.each reads;
     }
 
@@ -264,7 +176,7 @@ same_circuit a model clock names drives outputs same_model same_clock same_names
 
 -- With all signals the parts spell the subject circuit.
 pub all_signals : (k : ℕ) (c : Plain) (parts : Parts) (s : ℕ) (numbers : List ℕ) → AreNumbers k c.drives numbers
-    → HasFrame (slice_index numbers) c parts → HasFirstSignals k c parts s → length c.drives ≤ s → All (λ o. o < length c.drives) c.outputs
+    → HasFrame c (map (slice_index numbers) c.outputs) parts → HasFirstPlaces k c parts s → length c.drives ≤ s → All (λ o. o < length c.drives) c.outputs
     → circuit_of parts ≡ subject_of k c
 unfolding subject_of
 all_signals k c parts s numbers are framed so_far all below =

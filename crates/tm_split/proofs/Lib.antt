@@ -3,7 +3,6 @@ pub mod Values
 pub mod Whole
 pub mod Literals
 pub mod Numbers
-pub mod Runs
 pub mod Adding
 pub mod Growing
 pub mod Places

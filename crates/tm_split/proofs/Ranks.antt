@@ -10,6 +10,7 @@ use Rattle.tm_bits.specs.Rows.{Rows}
 use Rattle.tm_circuit.specs.Plain.{Plain, Drive, input, latch, gate, drive_in, pins_of}
 use Rattle.tm_circuit.specs.Chain.{IsChain, HasCircle, RisesTo, rank}
 use Rattle.tm_circuit.specs.Sound.{IsSound, ReadsBelow}
+use Rattle.tm_circuit.proofs.PeriodLemmas.{ranked-no_circle}
 use Rattle.tm_split.specs.declared.piece.Wire.{Wire}
 use Rattle.tm_split.specs.declared.piece.Wire.TheVariants.{Pin, Made}
 use Rattle.tm_split.specs.declared.piece.Piece.{Piece}
@@ -21,27 +22,6 @@ use Rattle.tm_split.proofs.Whole.{pieces_wired}
 use Rattle.tm_split.proofs.Literals.{rows_of_literals, rows_wired_by}
 use Rattle.tm_split.proofs.Numbers.{first_next, length-drives_for, length-in_places, length-subject_of, some_pieces}
 use Rattle.tm_split.proofs.Places.{IsAt, located, places_at, slice_get_at, extra_within}
-
--- ---- no circle where ranks rise
-
-rank_of_pin : (rank : ℕ → ℕ) (s p : ℕ) (d : Drive) → RisesTo rank s d → Contains (pins_of d) p → rank p < rank s
-rank_of_pin rank s p input rises (k, inside, is) = absurd (omega arith)
-rank_of_pin rank s p (latch next init) rises (k, inside, is) = absurd (omega arith)
-rank_of_pin rank s p (gate pins cover) rises inside = rises p inside
-
-along : (drives : List Drive) (rank : ℕ → ℕ) → ((s : ℕ) → RisesTo rank s (drive_in drives s))
-    → (first last : ℕ) (through : List ℕ) → IsChain drives (first ∷ (through ++ last ∷ [])) → rank first < rank last
-along drives rank rises first last [] chain = rank_of_pin rank last first (drive_in drives last) (rises last) chain.1
-along drives rank rises first last (next ∷ through) chain =
-    let here : rank first < rank next = rank_of_pin rank next first (drive_in drives next) (rises next) chain.1 in
-    let rest : rank next < rank last = along drives rank rises next last through chain.2 in
-    omega arith
-
-pub no_circle : (drives : List Drive) (rank : ℕ → ℕ) → ((s : ℕ) → RisesTo rank s (drive_in drives s))
-    → HasCircle drives → ⊥
-no_circle drives rank rises (g, (through, chain)) =
-    let above : rank g < rank g = along drives rank rises g g through chain in
-    omega arith
 
 -- ---- what stands at a number
 
@@ -276,4 +256,4 @@ new_ranks_rise k c sound n =
 
 pub subject_no_circle : (k : ℕ) (c : Plain) → IsSound c → HasCircle (subject_of k c).drives → ⊥
 subject_no_circle k c sound =
-    no_circle (subject_of k c).drives (new_rank k (rank c) (suc (sum_by (extra k) c.drives)) c.drives) (new_ranks_rise k c sound)
+    ranked-no_circle (subject_of k c).drives (new_rank k (rank c) (suc (sum_by (extra k) c.drives)) c.drives) (record { rises = new_ranks_rise k c sound })

@@ -1,19 +1,24 @@
 -- The subject circuit is lawful: it is refused for no reason but want of memory.
-use Rattle.std.proofs.Common.{◌≡◌, ◌≢◌, ℕ, suc, ◌+◌, ◌<◌, ◌≤◌, Bool, true, false, cond, ltb, List, [], ◌∷◌, ◌++◌, map, length, get_or, inl, inr, zero-add, refl, sym, ◌∙◌, ap, subst, arith}
-use Rattle.std.specs.Prelude.{All, AllPairs, IfSome, count_by, if◌then◌else◌}
+use Rattle.std.proofs.Common.{◌≡◌, ◌≢◌, ℕ, suc, ◌+◌, ◌<◌, ◌≤◌, Bool, true, false, cond, ltb, List, [], ◌∷◌, ◌++◌, map, length, get_or, Some, None, inl, inr, zero-add, refl, sym, ◌∙◌, ap, subst, arith}
+use Rattle.std.specs.Prelude.{All, AllPairs, Option, IfSome, count_by, if◌then◌else◌}
 use Rattle.std.proofs.lemmas.Bool.{cases_lt}
 use Rattle.std.proofs.lemmas.List.{length-map, get_or-map}
 use Rattle.std.proofs.lemmas.List.Sums.{sum_by-cons, sum_by-append}
 use Rattle.std.proofs.lemmas.List.Elements.{All-head, All-tail, All-append, All-map, All-weaker}
 use Rattle.tm_bits.specs.Rows.{Rows}
 use Rattle.tm_circuit.specs.declared.circuit.CircuitFault.TheVariants.{TooMany, Range, BadName, RepeatedName, RepeatedOutput, Loop, NoMemory}
+use Rattle.tm_circuit.specs.declared.parts.Clock.{Clock}
 use Rattle.tm_circuit.specs.Plain.{Plain, Drive, input, latch, gate, is_input, is_latch, pins_of, input_count, latch_count, widest}
 use Rattle.tm_circuit.specs.Sound.{IsSound, IsInRange, IsWellNamed, IsDistinctlyNamed, HasDistinctOutputs, ReadsBelow, FitsPins, IsClockOf, IsName, clock_name}
 use Rattle.tm_split.specs.declared.piece.Piece.{Piece}
 use Rattle.tm_split.specs.Pieces.{is_empty, pieces_of, wires_of, rows_of}
-use Rattle.tm_split.specs.Names.{HasNamesWithin}
+use Rattle.tm_parts.specs.Names.{all_names, HasNamesWithin}
+use Rattle.tm_parts.specs.Runs.{HasRunsWithin}
+use Rattle.tm_parts.specs.Fits.{FitsMapping, plus}
+use Rattle.tm_parts.specs.Parts.{IsRefusedForMemory}
+use Rattle.tm_parts.proofs.NameLemmas.{all_second, all_clock}
+use Rattle.tm_parts.proofs.Measures.{runs_of_short}
 use Rattle.tm_split.specs.Subject.{first_number, number, wire_number, gates_of, drives_for, in_places, drives_at, names_at, subject_of}
-use Rattle.tm_split.specs.Making.{IsRefusedForMemory}
 use Rattle.tm_split.proofs.Numbers.{length-subject_of}
 use Rattle.tm_split.proofs.Places.{number_below, number_rises}
 use Rattle.tm_split.proofs.Shapes.{IsFine, subject_fine}
@@ -192,13 +197,33 @@ pub subject_narrow : (k : ℕ) (c : Plain) → IsSplittable k c → widest (subj
 subject_narrow k c is =
     widest_most (subject_of k c).drives k (All-weaker (IsFine (length (subject_of k c).drives) k) (λ d. length (pins_of d) ≤ k) (λ d f. f.narrow) (subject_of k c).drives (fine k c is))
 
-all_second : {X : Type 0} (P : X → Type 0) (xs ys : List X) → All P (xs ++ ys) → All P ys
-all_second P [] ys all = all
-all_second P (x ∷ xs) ys all = all_second P xs ys (All-tail P x (xs ++ ys) all)
-
 pub subject_names_short : (k : ℕ) (c : Plain) → IsSplittable k c → HasNamesWithin 517 (subject_of k c)
 unfolding subject_of
 subject_names_short k c is =
     All-append (λ n. length n ≤ 517) (in_places (names_at k c) 0 c.drives) (clock_name c.clock)
     (All-weaker IsFineName (λ n. length n ≤ 517) (λ n f. f.short) (in_places (names_at k c) 0 c.drives) (fine_names k c is))
     (All-weaker (λ n. length n ≤ 255) (λ n. length n ≤ 517) (λ n less. omega arith) (clock_name c.clock) (all_second (λ n. length n ≤ 255) c.names (clock_name c.clock) is.names))
+
+short_clock : (clock : Option Clock) → All (λ n. length n ≤ 255) (clock_name clock) → IfSome clock (λ k. length k.name ≤ 255)
+short_clock None short = tt
+short_clock (Some k) short = All-head (λ n. length n ≤ 255) k.name [] short
+
+subject_runs : (k : ℕ) (c : Plain) → IsSplittable k c → All (HasRunsWithin plus 255) (all_names (subject_of k c))
+unfolding subject_of
+subject_runs k c is =
+    All-append (HasRunsWithin plus 255) (in_places (names_at k c) 0 c.drives) (clock_name c.clock)
+    (All-weaker IsFineName (HasRunsWithin plus 255) (λ n f. f.runs) (in_places (names_at k c) 0 c.drives) (fine_names k c is))
+    (All-weaker (λ n. length n ≤ 255) (HasRunsWithin plus 255) (λ n short. runs_of_short plus 255 n short) (clock_name c.clock) (all_second (λ n. length n ≤ 255) c.names (clock_name c.clock) is.names))
+
+subject_clock : (k : ℕ) (c : Plain) → IsSplittable k c → IfSome (subject_of k c).clock (λ clock. length clock.name ≤ 255)
+unfolding subject_of
+subject_clock k c is = short_clock c.clock (all_second (λ n. length n ≤ 255) c.names (clock_name c.clock) is.names)
+
+-- The subject circuit can be mapped.
+pub subject_fits : (k : ℕ) (c : Plain) → IsSplittable k c → FitsMapping (subject_of k c)
+subject_fits k c is = record {
+  few = is.few;
+  names = subject_names_short k c is;
+  runs = subject_runs k c is;
+  clock = subject_clock k c is;
+}

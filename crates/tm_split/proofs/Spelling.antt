@@ -13,10 +13,13 @@ use Rattle.tm_circuit.specs.Plain.{Plain, Drive, input, latch, gate, greatest}
 use Rattle.tm_circuit.specs.Sound.{IsName, IsNameByte, clock_name, IsDistinctlyNamed}
 use Rattle.tm_split.specs.declared.piece.Piece.{Piece}
 use Rattle.tm_split.specs.Pieces.{is_empty, pieces_of}
-use Rattle.tm_split.specs.Names.{tilde, longest_run, all_names, joiner_of, piece_names, HasNamesWithin}
+use Rattle.tm_parts.specs.Names.{all_names, HasNamesWithin}
+use Rattle.tm_parts.specs.Runs.{HasRunsWithin, longest_run, joiner_of}
+use Rattle.tm_parts.specs.Fits.{plus}
+use Rattle.tm_split.specs.Names.{tilde, piece_names}
 use Rattle.tm_split.specs.Subject.{extra, first_number, names_for, in_places, names_at}
 use Rattle.tm_split.proofs.Numbers.{length-names_for, length-in_places, some_pieces}
-use Rattle.tm_split.proofs.Runs.{run_within, greatest_runs}
+use Rattle.tm_parts.proofs.Measures.{run_within, greatest_runs, runs_of_short, runs_followed}
 use Rattle.tm_split.proofs.Places.{IsAt, located, places_at, all_places, extra_within}
 use Rattle.tm_split.proofs.Shapes.{all_by_test}
 
@@ -35,9 +38,20 @@ decimal_same m n small_m small_n same =
 
 -- ---- lawful and short names
 
+-- A name that the mapper can take: lawful, short, and without a long run of `+`.
 pub record IsFineName (name : List ℕ) : Type 0 where
   pub lawful : IsName name
   pub short : length name ≤ 517
+  pub runs : HasRunsWithin plus 255 name
+
+-- A joiner that fine names can have.
+pub record IsFineJoiner (joiner : List ℕ) : Type 0 where
+  pub lawful : All IsNameByte joiner
+  pub few : length joiner ≤ 256
+  pub others : All (λ b. b ≡ plus → ⊥) joiner
+
+old_name_fine : (name : List ℕ) → IsName name → length name ≤ 255 → IsFineName name
+old_name_fine name is short = record { lawful = is; short = omega arith; runs = runs_of_short plus 255 name short }
 
 digit_byte : (b : ℕ) → (48 ≤ b) × (b ≤ 57) → IsNameByte b
 digit_byte b is = (omega arith, omega arith, λ e. omega arith, λ e. omega arith)
@@ -45,51 +59,62 @@ digit_byte b is = (omega arith, omega arith, λ e. omega arith, λ e. omega arit
 pub tilde_byte : IsNameByte tilde
 tilde_byte = (omega arith, omega arith, λ e. omega arith, λ e. omega arith)
 
-new_name_fine : (name joiner : List ℕ) (n : ℕ) → IsName name → length name ≤ 255 → All IsNameByte joiner → length joiner ≤ 256
+no_plus : (n : ℕ) → n < 2 ^ 64 → All (λ b. b ≡ plus → ⊥) (decimal n)
+no_plus n small = All-weaker (λ b. (48 ≤ b) × (b ≤ 57)) (λ b. b ≡ plus → ⊥) (λ b is e. omega arith) (decimal n) (decimal_digits n small)
+
+new_name_fine : (name joiner : List ℕ) (n : ℕ) → IsName name → length name ≤ 255 → IsFineJoiner joiner
     → n < 10 ^ 6 → IsFineName ((name ++ joiner) ++ decimal n)
-new_name_fine name joiner n is short lawful few small =
+new_name_fine name joiner n is short joins small =
     let fits : n < 2 ^ 64 = omega arith in
     let digits : length (decimal n) ≤ 6 = length-decimal-le 6 n (omega arith) small fits in
     let first : length (name ++ joiner) ≡ length name + length joiner = length-append name joiner in
     let all : length ((name ++ joiner) ++ decimal n) ≡ length (name ++ joiner) + length (decimal n) = length-append (name ++ joiner) (decimal n) in
     let some : 0 < length name = is.some in
+    let few : length joiner ≤ 256 = joins.few in
+    let others : All (λ b. b ≡ plus → ⊥) (joiner ++ decimal n) = All-append (λ b. b ≡ plus → ⊥) joiner (decimal n) joins.others (no_plus n fits) in
     record {
       lawful = record {
         some = omega arith;
         short = omega arith;
-        lawful = All-append IsNameByte (name ++ joiner) (decimal n) (All-append IsNameByte name joiner is.lawful lawful) (All-weaker (λ b. (48 ≤ b) × (b ≤ 57)) IsNameByte digit_byte (decimal n) (decimal_digits n fits));
+        lawful = All-append IsNameByte (name ++ joiner) (decimal n) (All-append IsNameByte name joiner is.lawful joins.lawful) (All-weaker (λ b. (48 ≤ b) × (b ≤ 57)) IsNameByte digit_byte (decimal n) (decimal_digits n fits));
       };
       short = omega arith;
+      runs = subst (λ (text : List ℕ). HasRunsWithin plus 255 text) (sym (append_assoc name joiner (decimal n))) (runs_followed plus 255 name (joiner ++ decimal n) short others);
     }
 
 fine_by : (test : Bool) (name other : List ℕ) → IsFineName name → IsFineName other → IsFineName (cond test name other)
 fine_by true name other is_name is_other = is_name
 fine_by false name other is_name is_other = is_other
 
-piece_names_fine : (name joiner : List ℕ) (n : ℕ) (pieces : List Piece) → IsName name → length name ≤ 255 → All IsNameByte joiner
-    → length joiner ≤ 256 → n + length pieces ≤ 10 ^ 6 → All IsFineName (piece_names name joiner n pieces)
-piece_names_fine name joiner n [] is short lawful few small = All-nil IsFineName
-piece_names_fine name joiner n (piece ∷ rest) is short lawful few small =
+piece_names_fine : (name joiner : List ℕ) (n : ℕ) (pieces : List Piece) → IsName name → length name ≤ 255 → IsFineJoiner joiner
+    → n + length pieces ≤ 10 ^ 6 → All IsFineName (piece_names name joiner n pieces)
+piece_names_fine name joiner n [] is short joins small = All-nil IsFineName
+piece_names_fine name joiner n (piece ∷ rest) is short joins small =
     All-cons IsFineName (cond (is_empty rest) name ((name ++ joiner) ++ decimal n)) (piece_names name joiner (suc n) rest)
-    (fine_by (is_empty rest) name ((name ++ joiner) ++ decimal n) (record { lawful = is; short = omega arith }) (new_name_fine name joiner n is short lawful few (omega arith)))
-    (piece_names_fine name joiner (suc n) rest is short lawful few (omega arith))
+    (fine_by (is_empty rest) name ((name ++ joiner) ++ decimal n) (old_name_fine name is short) (new_name_fine name joiner n is short joins (omega arith)))
+    (piece_names_fine name joiner (suc n) rest is short joins (omega arith))
 
-pub names_for_fine : (k : ℕ) (name joiner : List ℕ) (d : Drive) → IsName name → length name ≤ 255 → All IsNameByte joiner
-    → length joiner ≤ 256 → extra k d ≤ 100000 → All IsFineName (names_for k name joiner d)
-names_for_fine k name joiner input is short lawful few small = All-cons IsFineName name [] (record { lawful = is; short = omega arith }) (All-nil IsFineName)
-names_for_fine k name joiner (latch next init) is short lawful few small = All-cons IsFineName name [] (record { lawful = is; short = omega arith }) (All-nil IsFineName)
-names_for_fine k name joiner (gate pins cover) is short lawful few small =
+pub names_for_fine : (k : ℕ) (name joiner : List ℕ) (d : Drive) → IsName name → length name ≤ 255 → IsFineJoiner joiner
+    → extra k d ≤ 100000 → All IsFineName (names_for k name joiner d)
+names_for_fine k name joiner input is short joins small = All-cons IsFineName name [] (old_name_fine name is short) (All-nil IsFineName)
+names_for_fine k name joiner (latch next init) is short joins small = All-cons IsFineName name [] (old_name_fine name is short) (All-nil IsFineName)
+names_for_fine k name joiner (gate pins cover) is short joins small =
     all_by_test IsFineName (ltb k (length pins)) (piece_names name joiner 1 (pieces_of pins cover)) (name ∷ [])
     (λ wide.
     let more : extra k (gate pins cover) ≡ length (pieces_of pins cover) - 1 = ap (λ b. cond b (length (pieces_of pins cover) - 1) 0) wide in
-    piece_names_fine name joiner 1 (pieces_of pins cover) is short lawful few (omega arith))
-    (λ kept. All-cons IsFineName name [] (record { lawful = is; short = omega arith }) (All-nil IsFineName))
+    piece_names_fine name joiner 1 (pieces_of pins cover) is short joins (omega arith))
+    (λ kept. All-cons IsFineName name [] (old_name_fine name is short) (All-nil IsFineName))
 
-pub joiner_fine : (c : Plain) → HasNamesWithin 255 c → All IsNameByte (joiner_of c) × (length (joiner_of c) ≤ 256)
+pub joiner_fine : (c : Plain) → HasNamesWithin 255 c → IsFineJoiner (joiner_of tilde c)
 joiner_fine c short =
-    let most : greatest (map longest_run (all_names c)) ≤ 255 = greatest_runs (all_names c) short in
-    let size : length (joiner_of c) ≡ suc (greatest (map longest_run (all_names c))) = length-replicate (suc (greatest (map longest_run (all_names c)))) tilde in
-    (All-replicate IsNameByte (suc (greatest (map longest_run (all_names c)))) tilde tilde_byte, omega arith)
+    let n : ℕ = suc (greatest (map (longest_run tilde) (all_names c))) in
+    let most : greatest (map (longest_run tilde) (all_names c)) ≤ 255 = greatest_runs tilde 255 (all_names c) short in
+    let size : length (joiner_of tilde c) ≡ suc (greatest (map (longest_run tilde) (all_names c))) = length-replicate (suc (greatest (map (longest_run tilde) (all_names c)))) tilde in
+    record {
+      lawful = All-replicate IsNameByte n tilde tilde_byte;
+      few = omega arith;
+      others = All-replicate (λ b. b ≡ plus → ⊥) n tilde (λ e. omega arith);
+    }
 
 pub subject_names_fine : (k : ℕ) (c : Plain) → HasNamesWithin 255 c → All IsName c.names → length c.names ≡ length c.drives
     → first_number k c.drives (length c.drives) ≤ 100000 → All IsFineName (in_places (names_at k c) 0 c.drives)
@@ -99,13 +124,12 @@ subject_names_fine k c short lawful named few =
     let inside : s < length c.names = omega arith in
     let more : extra k d ≤ sum_by (extra k) c.drives = extra_within k c.drives s d is in
     let all : sum_by (extra k) (take (length c.drives) c.drives) ≡ sum_by (extra k) c.drives = ap (λ ds. sum_by (extra k) ds) (take_all (length c.drives) c.drives (omega arith)) in
-    let (lawful_joiner, few_joiner) = joiner_fine c short in
     let is_name : IsName (get_or c.names s []) = All-get_or IsName c.names s [] inside lawful in
     let first : get_or (c.names ++ clock_name c.clock) s [] ≡ get_or c.names s [] = get_or_append_left c.names (clock_name c.clock) [] s inside in
     let longer : s < length (c.names ++ clock_name c.clock) = omega (arith, length-append c.names (clock_name c.clock)) in
     let is_short : length (get_or c.names s []) ≤ 255 = subst (λ (n : List ℕ). length n ≤ 255) first (All-get_or (λ n. length n ≤ 255) (c.names ++ clock_name c.clock) s [] longer short) in
     let place : s ≡ 0 + s = omega arith in
-    subst (λ (n : ℕ). All IsFineName (names_at k c n d)) place (names_for_fine k (get_or c.names s []) (joiner_of c) d is_name is_short lawful_joiner few_joiner (omega arith)) in
+    subst (λ (n : ℕ). All IsFineName (names_at k c n d)) place (names_for_fine k (get_or c.names s []) (joiner_of tilde c) d is_name is_short (joiner_fine c short) (omega arith)) in
     all_places IsFineName (names_at k c) 0 c.drives each
 
 -- ---- which name stands where
@@ -157,12 +181,12 @@ names_for_at k name joiner (gate pins cover) i x within =
 
 pub record IsNamedAt (k : ℕ) (c : Plain) (n : ℕ) (x : List ℕ) (s i : ℕ) (d : Drive) : Type 0 where
   pub place : IsAt (extra k) c.drives n s i d
-  pub name : IsNameOf (get_or c.names s []) (joiner_of c) (extra k d) i x
+  pub name : IsNameOf (get_or c.names s []) (joiner_of tilde c) (extra k d) i x
 
 pub named_at : (k : ℕ) (c : Plain) (n : ℕ) (x : List ℕ) → n < length (in_places (names_at k c) 0 c.drives)
     → (s : ℕ) × ((i : ℕ) × ((d : Drive) × IsNamedAt k c n (get_or (in_places (names_at k c) 0 c.drives) n x) s i d))
 named_at k c n x within =
-    let sizes : (t : ℕ) (e : Drive) → length (names_at k c t e) ≡ suc (extra k e) = λ t e. length-names_for k (get_or c.names t []) (joiner_of c) e in
+    let sizes : (t : ℕ) (e : Drive) → length (names_at k c t e) ≡ suc (extra k e) = λ t e. length-names_for k (get_or c.names t []) (joiner_of tilde c) e in
     let size : length (in_places (names_at k c) 0 c.drives) ≡ length c.drives + sum_by (extra k) c.drives = length-in_places (names_at k c) (extra k) sizes 0 c.drives in
     let (s, (i, (d, place))) = located (extra k) c.drives n (omega arith) in
     let there : get_or (in_places (names_at k c) 0 c.drives) ((s + sum_by (extra k) (take s c.drives)) + i) x ≡ get_or (names_at k c (0 + s) d) i x = places_at (names_at k c) (extra k) sizes 0 c.drives s i d x place.drive place.within in
@@ -175,7 +199,7 @@ named_at k c n x within =
           d,
           record {
             place = place;
-            name = subst (λ (y : List ℕ). IsNameOf (get_or c.names s []) (joiner_of c) (extra k d) i y) (sym is) (names_for_at k (get_or c.names s []) (joiner_of c) d i x place.within);
+            name = subst (λ (y : List ℕ). IsNameOf (get_or c.names s []) (joiner_of tilde c) (extra k d) i y) (sym is) (names_for_at k (get_or c.names s []) (joiner_of tilde c) d i x place.within);
           },
         ),
       ),
@@ -222,10 +246,10 @@ new_same a b g m n small_m small_n same =
     (append_cancel_right a b (replicate g tilde) fronts, decimal_same m n small_m small_n digits)
 
 -- A new name has a longer run than any old name.
-new_not_old : (a old : List ℕ) (g n : ℕ) → longest_run old ≤ g → old ≡ (a ++ replicate (suc g) tilde) ++ decimal n → ⊥
+new_not_old : (a old : List ℕ) (g n : ℕ) → longest_run tilde old ≤ g → old ≡ (a ++ replicate (suc g) tilde) ++ decimal n → ⊥
 new_not_old a old g n few same =
-    let long : suc g ≤ longest_run (a ++ (replicate (suc g) tilde ++ decimal n)) = run_within a (suc g) (decimal n) in
-    let whole : longest_run old ≡ longest_run (a ++ (replicate (suc g) tilde ++ decimal n)) = ap longest_run (same ∙ append_assoc a (replicate (suc g) tilde) (decimal n)) in
+    let long : suc g ≤ longest_run tilde (a ++ (replicate (suc g) tilde ++ decimal n)) = run_within tilde a (suc g) (decimal n) in
+    let whole : longest_run tilde old ≡ longest_run tilde (a ++ (replicate (suc g) tilde ++ decimal n)) = ap (longest_run tilde) (same ∙ append_assoc a (replicate (suc g) tilde) (decimal n)) in
     omega arith
 
 greatest_at : (xs : List ℕ) (i d : ℕ) → i < length xs → get_or xs i d ≤ greatest xs
@@ -235,10 +259,10 @@ greatest_at (x ∷ xs) (suc i) d within =
     let later : get_or xs i d ≤ greatest xs = greatest_at xs i d (omega arith) in
     omega arith
 
-run_at : (names : List (List ℕ)) (i : ℕ) (d : List ℕ) → i < length names → longest_run (get_or names i d) ≤ greatest (map longest_run names)
+run_at : (names : List (List ℕ)) (i : ℕ) (d : List ℕ) → i < length names → longest_run tilde (get_or names i d) ≤ greatest (map (longest_run tilde) names)
 run_at names i d within =
-    let here : get_or (map longest_run names) i 0 ≡ longest_run (get_or names i d) = get_or-map longest_run names i d 0 within in
-    let most : get_or (map longest_run names) i 0 ≤ greatest (map longest_run names) = greatest_at (map longest_run names) i 0 (omega (arith, length-map names longest_run)) in
+    let here : get_or (map (longest_run tilde) names) i 0 ≡ longest_run tilde (get_or names i d) = get_or-map (longest_run tilde) names i d 0 within in
+    let most : get_or (map (longest_run tilde) names) i 0 ≤ greatest (map (longest_run tilde) names) = greatest_at (map (longest_run tilde) names) i 0 (omega (arith, length-map names (longest_run tilde))) in
     omega arith
 
 -- What is known of the names of a circuit.
@@ -249,10 +273,10 @@ pub record HasNames (c : Plain) : Type 0 where
 old_name_at : (c : Plain) (s : ℕ) (d : List ℕ) → s < length c.names → get_or (all_names c) s d ≡ get_or c.names s []
 old_name_at c s d within = get_or_append_left c.names (clock_name c.clock) d s within ∙ get_or_default c.names s d [] within
 
-old_run : (c : Plain) (s : ℕ) → s < length c.names → longest_run (get_or c.names s []) ≤ greatest (map longest_run (all_names c))
+old_run : (c : Plain) (s : ℕ) → s < length c.names → longest_run tilde (get_or c.names s []) ≤ greatest (map (longest_run tilde) (all_names c))
 old_run c s within =
     let longer : s < length (all_names c) = omega (arith, length-append c.names (clock_name c.clock)) in
-    subst (λ (n : List ℕ). longest_run n ≤ greatest (map longest_run (all_names c))) (old_name_at c s [] within) (run_at (all_names c) s [] longer)
+    subst (λ (n : List ℕ). longest_run tilde n ≤ greatest (map (longest_run tilde) (all_names c))) (old_name_at c s [] within) (run_at (all_names c) s [] longer)
 
 old_less : (c : Plain) (s t : ℕ) → HasNames c → s < t → t < length c.names → get_or c.names s [] ≡ get_or c.names t [] → ⊥
 old_less c s t has less within same =
@@ -273,7 +297,7 @@ old_same c s t has within_s within_t same =
 pub same_number : (k : ℕ) (c : Plain) (m n s t i j : ℕ) (d e : Drive) (x : List ℕ) → HasNames c → first_number k c.drives (length c.drives) ≤ 100000
     → IsNamedAt k c m x s i d → IsNamedAt k c n x t j e → m ≡ n
 same_number k c m n s t i j d e x has few at_m at_n =
-    let g : ℕ = greatest (map longest_run (all_names c)) in
+    let g : ℕ = greatest (map (longest_run tilde) (all_names c)) in
     let within_s : s < length c.drives = slice_get_within c.drives s d at_m.place.drive in
     let within_t : t < length c.drives = slice_get_within c.drives t e at_n.place.drive in
     let named : length c.names ≡ length c.drives = has.named in
@@ -305,7 +329,7 @@ same_number k c m n s t i j d e x has few at_m at_n =
 not_clock : (k : ℕ) (c : Plain) (n s i : ℕ) (d : Drive) (x : List ℕ) (clock : Clock) → HasNames c → c.clock ≡ Some clock → IsNamedAt k c n x s i d
     → x ≡ clock.name → ⊥
 not_clock k c n s i d x clock has is_clock at_n same =
-    let g : ℕ = greatest (map longest_run (all_names c)) in
+    let g : ℕ = greatest (map (longest_run tilde) (all_names c)) in
     let within_s : s < length c.drives = slice_get_within c.drives s d at_n.place.drive in
     let named : length c.names ≡ length c.drives = has.named in
     let names : all_names c ≡ c.names ++ clock.name ∷ [] = ap (λ k. c.names ++ clock_name k) is_clock in
@@ -314,7 +338,7 @@ not_clock k c n s i d x clock has is_clock at_n same =
     elim at_n.name [
       | inl (old, last) ↦ has.distinct s (length c.names) [] (omega arith) longer (old_name_at c s [] (omega arith) ∙ (sym old ∙ (same ∙ sym at_end)))
       | inr (less, new) ↦
-          let few : longest_run clock.name ≤ greatest (map longest_run (all_names c)) = subst (λ (y : List ℕ). longest_run y ≤ greatest (map longest_run (all_names c))) at_end (run_at (all_names c) (length c.names) [] longer) in
+          let few : longest_run tilde clock.name ≤ greatest (map (longest_run tilde) (all_names c)) = subst (λ (y : List ℕ). longest_run tilde y ≤ greatest (map (longest_run tilde) (all_names c))) at_end (run_at (all_names c) (length c.names) [] longer) in
           new_not_old (get_or c.names s []) clock.name g (suc i) few (sym same ∙ new)
     ]
 

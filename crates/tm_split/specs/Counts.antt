@@ -1,9 +1,10 @@
 -- How many new gates there are, told from the rows alone.
-use Rattle.std.specs.Prelude.{◌≡◌, ℕ, ◌<◌, ◌==◌, Bool, true, false, List, length, min, sum_by, count_by, slice_index, if◌then◌else◌}
+use Rattle.std.specs.Prelude.{◌≡◌, ℕ, suc, ◌<◌, ◌==◌, Bool, true, false, List, length, min, sum_by, count_by, slice_index, if◌then◌else◌}
 use Rattle.std.specs.List.{list_any}
 use Rattle.tm_bits.specs.declared.cover.Place.{Place}
 use Rattle.tm_bits.specs.declared.cover.Place.TheVariants.{Zero, One, Any}
 use Rattle.tm_circuit.specs.Plain.{Drive}
+use Rattle.tm_split.specs.Limits.{most_subject_signals}
 use Rattle.tm_split.specs.Subject.{number}
 
 -- A place that gives a literal.
@@ -20,9 +21,9 @@ literal_count row = count_by asks row
 abbrev pub literal_total : List (List Place) → ℕ
 literal_total rows = if list_any (λ row. literal_count row == 0) rows then 0 else sum_by literal_count rows
 
--- A count is right, or both are past 100,000.
+-- A count is right, or both are past the most signals of a subject circuit.
 abbrev pub IsCountOf : ℕ → ℕ → Type 0
-IsCountOf count exact = min count 100001 ≡ min exact 100001
+IsCountOf count exact = min count (suc most_subject_signals) ≡ min exact (suc most_subject_signals)
 
 -- The numbers of the signals of a circuit in its subject circuit.
 pub record AreNumbers (k : ℕ) (drives : List Drive) (numbers : List ℕ) : Type 0 where

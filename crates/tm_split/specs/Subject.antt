@@ -5,7 +5,8 @@ use Rattle.tm_split.specs.declared.piece.Wire.{Wire}
 use Rattle.tm_split.specs.declared.piece.Wire.TheVariants.{Pin, Made}
 use Rattle.tm_split.specs.declared.piece.Piece.{Piece}
 use Rattle.tm_split.specs.Pieces.{is_empty, pieces_of, wires_of, rows_of}
-use Rattle.tm_split.specs.Names.{joiner_of, piece_names}
+use Rattle.tm_parts.specs.Runs.{joiner_of}
+use Rattle.tm_split.specs.Names.{tilde, piece_names}
 
 -- ---- numbers of signals
 
@@ -64,7 +65,7 @@ in_places at s (d ∷ rest) = at s d ++ in_places at (suc s) rest
 
 -- The names of the signals in the place of a signal.
 abbrev pub names_at : ℕ → Plain → ℕ → Drive → List (List ℕ)
-names_at k c s d = names_for k (slice_index_or c.names s []) (joiner_of c) d
+names_at k c s d = names_for k (slice_index_or c.names s []) (joiner_of tilde c) d
 
 -- The drives of the signals in the place of a signal.
 abbrev pub drives_at : ℕ → Plain → ℕ → Drive → List Drive

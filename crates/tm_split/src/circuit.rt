@@ -4,17 +4,20 @@ ghost use Rattle.std.specs.Prelude.{◌≡◌, ◌↔◌, ◌<◌, ◌≤◌, le
 ghost use Rattle.tm_circuit.specs.Plain.{widest};
 ghost use Rattle.tm_circuit.specs.Sound.{IsSound};
 ghost use Rattle.tm_circuit.specs.Same.{IsSame};
-ghost use Rattle.tm_split.specs.Names.{HasNamesWithin};
+ghost use Rattle.tm_parts.specs.Names.{HasNamesWithin};
+ghost use Rattle.tm_parts.specs.Limits.{longest_name_to_map};
+ghost use Rattle.tm_parts.specs.Fits.{FitsMapping};
+ghost use Rattle.tm_split.specs.Limits.{most_subject_signals, longest_name_to_split};
 ghost use Rattle.tm_split.specs.Subject.{subject_of};
 
-use crate::count::{MOST_SIGNALS, count, numbers};
+use crate::count::{is_few, numbers};
 use crate::gates::Plan;
-use crate::names::joiner;
 use crate::parts::split_parts;
 use std::alloc::Global;
 use thiserror::Error;
 use tm_bits::{MOST_K, NoMemory};
-use tm_circuit::{Circuit, CircuitFault};
+use tm_circuit::{Circuit, CircuitFault, laws};
+use tm_parts::joiner;
 
 /// Why there is no subject circuit of a circuit.
 #[derive(Clone, Copy, Debug, PartialEq, Eq, Error)]
@@ -43,22 +46,25 @@ impl From<NoMemory> for SplitFault {
 pub fn subject(alloc: Global, circuit: &Circuit, k: u8) -> Result<Circuit, SplitFault>
     requires least { 2 ≤ k }
     requires most { k ≤ MOST_K }
-    requires names { HasNamesWithin 255 circuit.now }
+    requires names { HasNamesWithin longest_name_to_split circuit.now }
     ensures subject { IfOk result (λ subject. subject ≡ subject_of k circuit.now) }
     ensures same { IfOk result (λ subject. IsSame circuit.now subject) }
     ensures narrow { IfOk result (λ subject. widest subject.drives ≤ k) }
-    ensures few { IfOk result (λ subject. length subject.drives ≤ MOST_SIGNALS) }
-    ensures names { IfOk result (λ subject. HasNamesWithin 517 subject) }
+    ensures few { IfOk result (λ subject. length subject.drives ≤ most_subject_signals) }
+    ensures names { IfOk result (λ subject. HasNamesWithin longest_name_to_map subject) }
     ensures sound { IfOk result IsSound }
-    ensures too_many { (result ≡ Err SplitFault.TooManySignals) ↔ (MOST_SIGNALS < length (subject_of k circuit.now).drives) }
+    ensures fits { IfOk result FitsMapping }
+    ensures too_many { (result ≡ Err SplitFault.TooManySignals) ↔ (most_subject_signals < length (subject_of k circuit.now).drives) }
 {
+    laws::same_by_trace();
+    laws::equivalence();
     let most = k as usize;
-    if count(circuit, most) > MOST_SIGNALS {
+    if !is_few(circuit, most) {
         return Err(SplitFault::TooManySignals);
     }
     let plan = Plan {
         numbers: numbers(alloc, circuit, most)?,
-        joiner: joiner(alloc, circuit)?,
+        joiner: joiner(alloc, circuit, b'~')?,
         most,
     };
     let parts = split_parts(alloc, circuit, &plan)?;

@@ -1,8 +1,9 @@
 // How many signals the subject circuit has, told before it is made, and their numbers.
 
-ghost use Rattle.std.specs.Prelude.{◌≡◌, ◌+◌, ◌-◌, ◌^◌, ◌<◌, ◌≤◌, ◌∷◌, [], length, min, IfOk};
+ghost use Rattle.std.specs.Prelude.{◌≡◌, ◌↔◌, ◌+◌, ◌-◌, ◌^◌, ◌<◌, ◌≤◌, ◌∷◌, [], length, min, IsTrue, IfOk};
 ghost use Rattle.tm_circuit.specs.Plain.{drive_of};
 ghost use Rattle.tm_circuit.specs.Sound.{FitsPins, IsSound};
+ghost use Rattle.tm_split.specs.Limits.{most_subject_signals};
 ghost use Rattle.tm_split.specs.Subject.{extra as extra_of, first_number, subject_of};
 ghost use Rattle.tm_split.specs.Counts.{literal_count as literals_asked, literal_total, IsCountOf, AreNumbers, asks as asks_of};
 
@@ -11,7 +12,7 @@ use tm_bits::{NoMemory, Place, Row};
 use tm_circuit::{Circuit, Driver, Signal};
 
 /// The most signals that a subject circuit may have.
-pub const MOST_SIGNALS: u64 = 100_000;
+pub const MOST_SUBJECT_SIGNALS: u64 = 100_000;
 
 /// Whether a place gives a literal.
 fn asks(place: Place) -> bool
@@ -63,7 +64,7 @@ pub fn extra(driver: &Driver, k: usize) -> u64
 }
 
 /// The number of signals of the subject circuit, exact up to 100,000.
-pub fn count(circuit: &Circuit, k: usize) -> u64
+fn count(circuit: &Circuit, k: usize) -> u64
     ensures count { IsCountOf result (length (subject_of k circuit.now).drives) }
     ensures sound { IsSound circuit.now }
 {
@@ -75,9 +76,17 @@ pub fn count(circuit: &Circuit, k: usize) -> u64
     total
 }
 
+/// Whether the subject circuit has no more signals than it may have.
+pub fn is_few(circuit: &Circuit, k: usize) -> bool
+    ensures few { IsTrue result ↔ (length (subject_of k circuit.now).drives ≤ most_subject_signals) }
+    ensures sound { IsSound circuit.now }
+{
+    count(circuit, k) <= MOST_SUBJECT_SIGNALS
+}
+
 /// The numbers of the signals in the subject circuit.
 pub fn numbers(alloc: Global, circuit: &Circuit, k: usize) -> Result<Vec<Signal>, NoMemory>
-    requires { length (subject_of k circuit.now).drives ≤ MOST_SIGNALS }
+    requires { length (subject_of k circuit.now).drives ≤ most_subject_signals }
     ensures { IfOk result (λ numbers. AreNumbers k circuit.now.drives numbers.items) }
 {
     let mut numbers = Vec::new(alloc);

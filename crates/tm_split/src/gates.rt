@@ -5,10 +5,12 @@ ghost use Rattle.std.specs.Fmt.{decimal};
 ghost use Rattle.tm_bits.specs.Rows.{HasWidth};
 ghost use Rattle.tm_bits.specs.Tables.{place_of};
 ghost use Rattle.tm_circuit.specs.Plain.{gate};
+ghost use Rattle.tm_parts.specs.Parts.{part_drive, part_names, part_drives};
+ghost use Rattle.tm_split.specs.Limits.{most_subject_signals};
 ghost use Rattle.tm_split.specs.Pieces.{wires_of, rows_of};
 ghost use Rattle.tm_split.specs.Names.{piece_names};
 ghost use Rattle.tm_split.specs.Subject.{extra as extra_of, wire_number as number_of_wire, piece_drive, gates_of, drives_for, names_for};
-ghost use Rattle.tm_split.specs.Making.{IsWireOf, IsReadOf, AreWired, part_drive, part_names, part_drives};
+ghost use Rattle.tm_split.specs.Making.{IsWireOf, IsReadOf, AreWired};
 
 use crate::names::new_name;
 use crate::piece::{Literal, Piece, Wire};
@@ -37,8 +39,8 @@ pub fn moved(alloc: Global, signals: &[Signal], numbers: &[Signal]) -> Result<Ve
 
 /// The number of what a new gate reads.
 fn wire_number(wire: Wire, numbers: &[Signal], first: u32) -> Signal
-    requires wire { IsWireOf (length numbers.now) 100000 wire }
-    requires first { first ≤ 100000 }
+    requires wire { IsWireOf (length numbers.now) most_subject_signals wire }
+    requires first { first ≤ most_subject_signals }
     ensures { result ≡ number_of_wire (slice_index numbers.now) first wire }
 {
     match wire {
@@ -55,7 +57,7 @@ fn piece_pins(
     first: u32,
 ) -> Result<SmallVec<Signal, 8>, NoMemory>
     requires wires { IsReadOf (length numbers.now) piece.now }
-    requires first { first ≤ 100000 }
+    requires first { first ≤ most_subject_signals }
     ensures { IfOk result (λ pins. pins.items ≡ map (number_of_wire (slice_index numbers.now) first) (wires_of piece.now)) }
 {
     let mut pins = SmallVec::new(alloc);
@@ -135,7 +137,7 @@ fn piece_part(
     first: u32,
 ) -> Result<GatePart, NoMemory>
     requires wires { IsReadOf (length numbers.now) piece.now }
-    requires first { first ≤ 100000 }
+    requires first { first ≤ most_subject_signals }
     requires row { on ≡ false → rows_of piece.now ≢ [] }
     ensures name { IfOk result (λ part. part.name ≡ name) }
     ensures drive { IfOk result (λ part. part_drive part ≡ piece_drive on (slice_index numbers.now) first piece.now) }
@@ -173,10 +175,12 @@ fn add_pieces(
     first: u32,
 ) -> Result<(), NoMemory>
     requires wired { AreWired on (length plan.now.numbers.items) 0 pieces.now }
-    requires few { length pieces.now ≤ 100000 }
-    requires first { first ≤ 100000 }
-    ensures names { OnOk result (part_names gates.new.items ≡ part_names gates.old.items ++ piece_names name.now plan.now.joiner.items 1 pieces.now) }
-    ensures drives { OnOk result (part_drives gates.new.items ≡ part_drives gates.old.items ++ gates_of on (slice_index plan.now.numbers.items) first pieces.now) }
+    requires few { length pieces.now ≤ most_subject_signals }
+    requires first { first ≤ most_subject_signals }
+    ensures names { OnOk result (part_names gates.new.items
+        ≡ part_names gates.old.items ++ piece_names name.now plan.now.joiner.items 1 pieces.now) }
+    ensures drives { OnOk result (part_drives gates.new.items
+        ≡ part_drives gates.old.items ++ gates_of on (slice_index plan.now.numbers.items) first pieces.now) }
 {
     let mut rest = pieces;
     let mut number = 1;
@@ -224,9 +228,12 @@ pub fn add_gate(
     requires reads { All (λ p. p < length plan.now.numbers.items) pins.now }
     requires wide { HasWidth cover.now (length pins.now) }
     requires own { extra_of plan.now.most (gate pins.now cover.now) ≤ own }
-    requires few { own < 100000 }
-    ensures names { OnOk result (part_names gates.new.items ≡ part_names gates.old.items ++ names_for plan.now.most name plan.now.joiner.items (gate pins.now cover.now)) }
-    ensures drives { OnOk result (part_drives gates.new.items ≡ part_drives gates.old.items ++ drives_for plan.now.most (slice_index plan.now.numbers.items) (own - extra_of plan.now.most (gate pins.now cover.now)) (gate pins.now cover.now)) }
+    requires few { own < most_subject_signals }
+    ensures names { OnOk result (part_names gates.new.items
+        ≡ part_names gates.old.items ++ names_for plan.now.most name plan.now.joiner.items (gate pins.now cover.now)) }
+    ensures drives { OnOk result (part_drives gates.new.items
+        ≡ part_drives gates.old.items ++ drives_for plan.now.most (slice_index plan.now.numbers.items)
+        (own - extra_of plan.now.most (gate pins.now cover.now)) (gate pins.now cover.now)) }
 {
     if pins.len() <= plan.most {
         let part = kept_gate(alloc, name, pins, cover, &plan.numbers)?;

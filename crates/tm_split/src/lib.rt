@@ -6,6 +6,7 @@
 mod circuit;
 mod count;
 mod gates;
+pub mod limits;
 mod names;
 mod parts;
 mod piece;
@@ -14,4 +15,4 @@ mod pieces;
 mod tests;
 
 pub use circuit::{SplitFault, subject};
-pub use count::MOST_SIGNALS;
+pub use count::MOST_SUBJECT_SIGNALS;

@@ -91,7 +91,8 @@ fn reduce(
     literals: Vec<Literal>,
     pieces: &mut Vec<Piece>,
 ) -> Result<Vec<Literal>, NoMemory>
-    ensures { IfOk result (λ left. reduction pieces.new.items left.items ≡ reduced_by (piece_by join) (reduction pieces.old.items literals.items)) }
+    ensures { IfOk result (λ left. reduction pieces.new.items left.items
+        ≡ reduced_by (piece_by join) (reduction pieces.old.items literals.items)) }
 {
     let mut left = literals;
     while left.len() > 1 {
@@ -107,7 +108,8 @@ fn reduce_rows(
     rows: &[Row],
     pieces: &mut Vec<Piece>,
 ) -> Result<Vec<Literal>, NoMemory>
-    ensures { IfOk result (λ left. reduction pieces.new.items left.items ≡ reduced_rows pieces.old.items (map (literals_of pins.now) rows.now)) }
+    ensures { IfOk result (λ left. reduction pieces.new.items left.items
+        ≡ reduced_rows pieces.old.items (map (literals_of pins.now) rows.now)) }
 {
     let mut left = Vec::new(alloc);
     for row in rows {

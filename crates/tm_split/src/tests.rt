@@ -1,14 +1,14 @@
 // What no clause says: that the calls succeed where there is memory, with the gates of a few circuits written out.
 
-ghost use Rattle.std.specs.Prelude.{◌≤◌, All, IsTrue, length, option_copied};
-ghost use Rattle.tm_circuit.specs.Sound.{clock_name};
+ghost use Rattle.std.specs.Prelude.{◌≤◌};
 
 use crate::{SplitFault, subject};
 use smallvec::SmallVec;
 use std::alloc::Global;
 use std::test::Fail;
-use tm_bits::{Cover, Place, Row};
-use tm_circuit::{Circuit, Clock, Driver, GatePart, Name, Parts, Signal};
+use tm_bits::{Cover, MOST_K, Place, Row};
+use tm_circuit::{Circuit, Clock, Driver, GatePart, Parts, Signal};
+use tm_parts::{has_names_within, name_of};
 
 /// A gate y over some inputs, beside a clock.
 #[derive(Drop)]
@@ -20,11 +20,6 @@ struct Case<'a> {
     rows: &'a [&'a str],
     /// How many times the rows stand.
     times: u32,
-}
-
-/// A name from its letters.
-fn name_of(alloc: Global, text: &str) -> Result<Name, Fail> {
-    Ok(Name::new(Vec::from_slice(alloc, text.as_bytes())?))
 }
 
 /// A row as BLIF spells it.
@@ -53,7 +48,7 @@ fn gate_of(alloc: Global, case: &Case) -> Result<GatePart, Fail> {
         }
     }
     Ok(GatePart {
-        name: name_of(alloc, "y")?,
+        name: name_of(alloc, b"y")?,
         pins,
         cover: Cover::new(case.on, rows).ok_or("even rows")?,
     })
@@ -63,14 +58,14 @@ fn gate_of(alloc: Global, case: &Case) -> Result<GatePart, Fail> {
 fn circuit_of(alloc: Global, case: &Case) -> Result<Circuit, Fail> {
     let mut inputs = Vec::new(alloc);
     for text in case.inputs {
-        inputs.push(name_of(alloc, text)?)?;
+        inputs.push(name_of(alloc, text.as_bytes())?)?;
     }
     let mut gates = Vec::new(alloc);
     gates.push(gate_of(alloc, case)?)?;
     let parts = Parts {
-        model: name_of(alloc, "case")?,
+        model: name_of(alloc, b"case")?,
         clock: Some(Clock {
-            name: name_of(alloc, case.clock)?,
+            name: name_of(alloc, case.clock.as_bytes())?,
             edge: None,
             declared: true,
             place: None,
@@ -113,35 +108,13 @@ fn shown(alloc: Global, circuit: &Circuit) -> Result<Vec<u8>, Fail> {
     Ok(out)
 }
 
-/// Whether the names of signals have at most 255 bytes.
-fn are_short(circuit: &Circuit) -> bool
-    ensures { IsTrue result → All (λ name. length name ≤ 255) circuit.now.names }
-{
-    for s in 0..circuit.signals() {
-        if circuit.name(Signal(s)).bytes().len() > 255 {
-            return false;
-        }
-    }
-    true
-}
-
-/// Whether the name of a clock, where there is one, has at most 255 bytes.
-fn is_short_clock(clock: Option<&Clock>) -> bool
-    ensures { IsTrue result → All (λ name. length name ≤ 255) (clock_name (option_copied clock.entry)) }
-{
-    match clock {
-        Some(clock) => clock.name.bytes().len() <= 255,
-        None => true,
-    }
-}
-
 /// The subject circuit of a case for `k`, where the names are short.
 fn split(alloc: Global, k: u8, case: &Case) -> Result<Result<Circuit, SplitFault>, Fail>
     requires least { 2 ≤ k }
-    requires most { k ≤ 8 }
+    requires most { k ≤ MOST_K }
 {
     let circuit = circuit_of(alloc, case)?;
-    if !are_short(&circuit) || !is_short_clock(circuit.clock()) {
+    if !has_names_within(&circuit, 255) {
         return Ok(Err(SplitFault::NoMemory));
     }
     Ok(subject(alloc, &circuit, k))
@@ -150,7 +123,7 @@ fn split(alloc: Global, k: u8, case: &Case) -> Result<Result<Circuit, SplitFault
 /// The gates of the subject circuit of a case for `k`.
 fn split_of(alloc: Global, k: u8, case: &Case) -> Result<Vec<u8>, Fail>
     requires least { 2 ≤ k }
-    requires most { k ≤ 8 }
+    requires most { k ≤ MOST_K }
 {
     shown(alloc, &split(alloc, k, case)??)
 }
@@ -175,7 +148,7 @@ fn gates_are_split(rt: HostRuntime) -> Result<(), Fail> {
     let split =
         b"y~1 a b|11 1;y~2 c d|11 1;y~3 e f|11 1;y~4 y~1 y~2|11 1;y~5 y~3 g|11 1;y~6 y~4 y~5|11 1;y y~6 a|1- 0|-0 0;";
     let kept = b"y a b c d e f g|1111111 0|0------ 0;";
-    for k in 2..=8 {
+    for k in 2..=MOST_K {
         let expected = if k < 7 {
             split.as_slice()
         } else {

@@ -10,13 +10,9 @@ use Rattle.tm_circuit.specs.declared.sources.Source.{Source}
 use Rattle.tm_circuit.specs.declared.sources.Source.TheVariants.{Input, Gate, Ring}
 use Rattle.tm_circuit.specs.Plain.{Plain, Drive, input, latch, gate, drive_in, is_input, is_latch, is_gate, input_count, latch_count, gate_count, pins_of, widest}
 use Rattle.tm_circuit.specs.Source.{step_back, back, IsSource}
-use Rattle.tm_circuit.specs.Trace.{IsTrace, row_bit, driven}
-use Rattle.tm_circuit.specs.Same.{IsSame, input_names, output_names}
-use Rattle.tm_circuit.specs.Chain.{rank}
-use Rattle.tm_circuit.specs.Sound.{IsSound}
+use Rattle.tm_circuit.specs.Trace.{IsTrace, HasOneTrace, row_bit, driven}
+use Rattle.tm_circuit.specs.Same.{IsSame, ShowsAlike, input_names, output_names}
 use Rattle.tm_circuit.proofs.ListLemmas.{contains-unmap}
-use Rattle.tm_circuit.proofs.Traces.{ranked_from_sound, one_trace_lem}
-use Rattle.tm_circuit.proofs.Sameness.{same_by_trace}
 use Rattle.tm_twins.specs.Twins.{IsWord, HasWord, AreEqual, IsTwin, AreTwins}
 use Rattle.tm_twins.specs.Joined.{joined_drive, IsJoined, HasSameBits, IsAsLarge, HasSameSources, HasSameTwins, HasOwnTwins, reads_of}
 use Rattle.tm_twins.proofs.Words.{past_twin, twin_word, word_twin, one_twin, twin_settled, word_from_input, word_from_gate, back_word, ring_no_word, own_twin}
@@ -227,9 +223,8 @@ joined_trace c j rows t joined is_t s step within =
     is_t s step within ∙ (driven_joined c rows t twin is_t twins (drive_in c.drives s) (row_bit rows s step) step within
     ∙ ap (λ d. driven d (row_bit rows s step) t step) (sym there))
 
-pub joined_bits : (c j : Plain) → IsSound j → IsJoined c j → HasSameBits c j
-joined_bits c j sound joined rows t u is_t is_u s step within =
-    one_trace_lem j (rank j) (ranked_from_sound j sound) rows t u (joined_trace c j rows t joined is_t) is_u s step within
+pub joined_bits : (c j : Plain) → HasOneTrace j → IsJoined c j → HasSameBits c j
+joined_bits c j traces joined rows t u is_t is_u s step within = traces.one rows t u (joined_trace c j rows t joined is_t) is_u s step within
 
 -- The names of the inputs are found by which drives are inputs.
 input_cond : (b c : Bool) (name : List ℕ) (d e : Drive) (xs ys : List (List ℕ × Drive)) → b ≡ c
@@ -247,15 +242,19 @@ inputs_joined twin (name ∷ names) [] = refl
 inputs_joined twin (name ∷ names) (d ∷ ds) =
     input_cond (is_input d) (is_input (joined_drive twin d)) name d (joined_drive twin d) (filter (λ signal. is_input signal.1) (zip names ds)) (filter (λ signal. is_input signal.1) (zip names (map (joined_drive twin) ds))) (sym (input_joined twin d)) (inputs_joined twin names ds)
 
-pub joined_same : (c j : Plain) → IsSound j → IsJoined c j → IsSame c j
-joined_same c j sound joined =
+-- Circuits are Same by their traces, as the law says: here of a circuit and its joined circuit.
+pub joined_same : (c j : Plain)
+    → (input_names c ≡ input_names j → output_names c ≡ output_names j
+    → ((rows : List (List Bool)) (t : ℕ → ℕ → Bool) → IsTrace c rows t → ShowsAlike c j rows t) → IsSame c j)
+    → IsJoined c j → IsSame c j
+joined_same c j by_traces joined =
     let (twin, twins, drives) = joined.drives in
     let inputs : input_names c ≡ input_names j =
     inputs_joined twin c.names c.drives ∙ (ap (λ (ds : List Drive). map (λ signal. signal.0) (filter (λ signal. is_input signal.1) (zip c.names ds))) (sym drives)
     ∙ ap (λ (names : List (List ℕ)). map (λ signal. signal.0) (filter (λ signal. is_input signal.1) (zip names j.drives))) (sym joined.names)) in
     let outputs : output_names c ≡ output_names j =
     ap (λ (names : List (List ℕ)). map (λ s. get_or names s []) c.outputs) (sym joined.names) ∙ ap (λ (outputs : List ℕ). map (λ s. get_or j.names s []) outputs) (sym joined.outputs) in
-    same_by_trace c j (rank j) (ranked_from_sound j sound) inputs outputs (λ rows t is_t.
+    by_traces inputs outputs (λ rows t is_t.
     (t, joined_trace c j rows t joined is_t, λ step within. ap (λ (outputs : List ℕ). map (λ s. t s step) outputs) (sym joined.outputs)))
 
 -- ---- sizes

@@ -5,3 +5,5 @@ pub mod Growing
 pub mod Steps
 pub mod ClassLemmas
 pub mod LeastLemmas
+pub mod SomeTwin
+pub mod SoundJoined

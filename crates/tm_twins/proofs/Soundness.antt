@@ -10,9 +10,10 @@ use Rattle.tm_circuit.specs.Plain.{Plain, Drive, input, latch, gate, drive_in, p
 use Rattle.tm_circuit.specs.Chain.{HasCircle, IsChain, RisesTo, rank}
 use Rattle.tm_circuit.specs.Sound.{IsSound, ReadsBelow, FitsPins, IsInRange, IsClockOf, IsName, IsClockName, clock_name, IsWellNamed, IsDistinctlyNamed}
 use Rattle.tm_circuit.proofs.ListLemmas.{contains-unmap}
+use Rattle.tm_circuit.proofs.PeriodLemmas.{ranked-no_circle}
+use Rattle.tm_parts.specs.Parts.{IsRefusedForMemory}
 use Rattle.tm_twins.specs.Twins.{IsWord, IsTwin, AreTwins}
 use Rattle.tm_twins.specs.Joined.{joined_drive, IsJoined}
-use Rattle.tm_twins.specs.Parts.{IsRefusedForMemory}
 use Rattle.tm_twins.proofs.Words.{worded_within}
 use Rattle.tm_twins.proofs.JoinedLemmas.{drive_joined, joined_large}
 
@@ -79,31 +80,9 @@ each_joined : (P Q : Drive → Type 0) (twin : ℕ → ℕ) → ((d : Drive) →
 each_joined P Q twin kept ds all =
     All-map Q (joined_drive twin) ds (λ k d inside. kept (get_or ds k d) (all k d inside))
 
--- ---- no circle
-
-rank_of_pin : (rank : ℕ → ℕ) (s p : ℕ) (d : Drive) → RisesTo rank s d → Contains (pins_of d) p → rank p < rank s
-rank_of_pin rank s p input rises (k, inside, is) = absurd (omega arith)
-rank_of_pin rank s p (latch next init) rises (k, inside, is) = absurd (omega arith)
-rank_of_pin rank s p (gate pins cover) rises inside = rises p inside
-
--- Along a chain ranks rise.
-along : (drives : List Drive) (rank : ℕ → ℕ) → ((s : ℕ) → RisesTo rank s (drive_in drives s))
-    → (first last : ℕ) (through : List ℕ) → IsChain drives (first ∷ (through ++ last ∷ [])) → rank first < rank last
-along drives rank rises first last [] chain = rank_of_pin rank last first (drive_in drives last) (rises last) chain.1
-along drives rank rises first last (next ∷ through) chain =
-    let here : rank first < rank next = rank_of_pin rank next first (drive_in drives next) (rises next) chain.1 in
-    let rest : rank next < rank last = along drives rank rises next last through chain.2 in
-    omega arith
-
-no_circle : (drives : List Drive) (rank : ℕ → ℕ) → ((s : ℕ) → RisesTo rank s (drive_in drives s))
-    → HasCircle drives → ⊥
-no_circle drives rank rises (g, (through, chain)) =
-    let above : rank g < rank g = along drives rank rises g g through chain in
-    omega arith
-
 -- ---- the circuit
 
-joined_in_range : (c j : Plain) → IsJoined c j → IsInRange c → IsInRange j
+pub joined_in_range : (c j : Plain) → IsJoined c j → IsInRange c → IsInRange j
 joined_in_range c j joined range =
     let (twin, twins, drives) = joined.drives in
     let large = joined_large c j joined in
@@ -119,26 +98,29 @@ joined_in_range c j joined range =
           (subst (λ (n : ℕ). IfSome c.clock (IsClockOf (input_count c.drives) n)) (sym large.latches) range.clock));
     }
 
-joined_well_named : (c j : Plain) → IsJoined c j → IsWellNamed c → IsWellNamed j
+pub joined_well_named : (c j : Plain) → IsJoined c j → IsWellNamed c → IsWellNamed j
 joined_well_named c j joined named = record {
   model = subst IsName (sym joined.model) named.model;
   signals = subst (λ (names : List (List ℕ)). All IsName names) (sym joined.names) named.signals;
   clock = subst (λ (clock : Option Clock). IfSome clock IsClockName) (sym joined.clock) named.clock;
 }
 
-joined_distinctly_named : (c j : Plain) → IsJoined c j → IsDistinctlyNamed c → IsDistinctlyNamed j
+pub joined_distinctly_named : (c j : Plain) → IsJoined c j → IsDistinctlyNamed c → IsDistinctlyNamed j
 joined_distinctly_named c j joined distinct =
     subst (λ (names : List (List ℕ)). AllPairs (λ a b. a ≢ b) (names ++ clock_name j.clock)) (sym joined.names)
     (subst (λ (clock : Option Clock). AllPairs (λ a b. a ≢ b) (c.names ++ clock_name clock)) (sym joined.clock) distinct)
 
-joined_no_circle : (c j : Plain) → IsJoined c j → IsSound c → HasCircle j.drives → ⊥
-joined_no_circle c j joined sound =
+-- Ranks of the circuit rise in the joined circuit too.
+pub joined_rises : (c j : Plain) → IsJoined c j → IsSound c → (s : ℕ) → RisesTo (rank c) s (drive_in j.drives s)
+joined_rises c j joined sound s =
     let (twin, twins, drives) = joined.drives in
-    no_circle j.drives (rank c) (λ s.
     let there : drive_in j.drives s ≡ joined_drive twin (drive_in c.drives s) =
     ap (λ (ds : List Drive). drive_in ds s) drives ∙ drive_joined c.drives twin twins s in
     subst (λ d. RisesTo (rank c) s d) (sym there)
-    (rises_to (rank c) twin (λ p. rank_of_twin c.drives (rank c) sound.ranked.rises p (twin p) (twins p)) s (drive_in c.drives s) (sound.ranked.rises s)))
+    (rises_to (rank c) twin (λ p. rank_of_twin c.drives (rank c) sound.ranked.rises p (twin p) (twins p)) s (drive_in c.drives s) (sound.ranked.rises s))
+
+joined_no_circle : (c j : Plain) → IsJoined c j → IsSound c → HasCircle j.drives → ⊥
+joined_no_circle c j joined sound = ranked-no_circle j.drives (rank c) (record { rises = joined_rises c j joined sound })
 
 -- The joined circuit is refused for no reason but want of memory.
 pub refused_for_memory : (c j : Plain) → IsSound c → IsJoined c j → IsRefusedForMemory j

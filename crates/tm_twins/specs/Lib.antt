@@ -1,4 +1,3 @@
 pub mod Twins
 pub mod Joined
-pub mod Parts
 pub mod Classes

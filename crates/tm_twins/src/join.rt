@@ -9,7 +9,7 @@ use crate::parts::joined_parts;
 use crate::twin::twins;
 use std::alloc::Global;
 use tm_bits::NoMemory;
-use tm_circuit::{Circuit, CircuitFault};
+use tm_circuit::{Circuit, CircuitFault, laws};
 
 /// The joined circuit: each pin and each next is replaced by its twin, and all else is the same. Each signal keeps its
 /// number, its bits in every trace, its source and its twin. Takes time in proportion to the circuit.
@@ -23,6 +23,8 @@ pub fn joined(alloc: Global, circuit: &Circuit) -> Result<Circuit, NoMemory>
     ensures twins { IfOk result (λ joined. HasSameTwins circuit.now joined) }
     ensures own_twins { IfOk result (λ joined. HasOwnTwins joined) }
 {
+    laws::one_trace();
+    laws::same_by_trace();
     let twins = twins(alloc, circuit)?;
     let parts = joined_parts(alloc, circuit, &twins)?;
     match Circuit::build(alloc, parts) {

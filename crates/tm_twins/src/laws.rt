@@ -2,6 +2,7 @@
 
 ghost use Rattle.std.specs.Prelude.{◌≡◌, ℕ, ◌⊎◌, Bool, List};
 ghost use Rattle.tm_circuit.specs.Plain.{Plain, Drive};
+ghost use Rattle.tm_circuit.specs.Sound.{IsSound};
 ghost use Rattle.tm_circuit.specs.Source.{IsSource};
 ghost use Rattle.tm_circuit.specs.declared.sources.Source.TheVariants.{Input, Gate};
 ghost use Rattle.tm_twins.specs.Twins.{IsWord, HasWord, AreEqual, IsTwin};
@@ -14,15 +15,18 @@ pub fn one_word()
     ensures some { (drives : List Drive) (s e : ℕ) → IsSource drives s (Input e) ⊎ IsSource drives s (Gate e) → HasWord drives s }
 {}
 
-/// A signal has at most one twin: where it has a word, the least signal equal to it, and otherwise itself.
+/// A signal has exactly one twin: where it has a word, the least signal equal to it, and otherwise itself.
 pub fn one_twin()
+    ensures some { (drives : List Drive) (s : ℕ) → (t : ℕ) × IsTwin drives s t }
     ensures one { (drives : List Drive) (s t u : ℕ) → IsTwin drives s t → IsTwin drives s u → t ≡ u }
     ensures equal { (drives : List Drive) (s t : ℕ) → HasWord drives s → IsTwin drives s t → AreEqual drives s t }
     ensures own { (drives : List Drive) (s t : ℕ) → ¬ HasWord drives s → IsTwin drives s t → t ≡ s }
     ensures settled { (drives : List Drive) (s t : ℕ) → IsTwin drives s t → IsTwin drives t t }
 {}
 
-/// A circuit has at most one joined circuit.
+/// A circuit has exactly one joined circuit, and that of a sound circuit is sound.
 pub fn one_joined()
-    ensures { (c d e : Plain) → IsJoined c d → IsJoined c e → d ≡ e }
+    ensures some { (c : Plain) → (d : Plain) × IsJoined c d }
+    ensures one { (c d e : Plain) → IsJoined c d → IsJoined c e → d ≡ e }
+    ensures sound { (c d : Plain) → IsSound c → IsJoined c d → IsSound d }
 {}

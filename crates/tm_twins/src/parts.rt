@@ -1,17 +1,18 @@
 // The parts of the joined circuit, signal by signal.
 
-ghost use Rattle.std.specs.Prelude.{◌≡◌, ◌<◌, [], length, map, All, IfOk, OnOk};
+ghost use Rattle.std.specs.Prelude.{◌≡◌, ◌<◌, length, map, All, IfOk};
 ghost use Rattle.tm_circuit.specs.Plain.{drive_of};
 ghost use Rattle.tm_circuit.specs.Sound.{ReadsBelow};
 ghost use Rattle.tm_circuit.specs.Build.{circuit_of};
+ghost use Rattle.tm_parts.specs.Parts.{IsRefusedForMemory};
 ghost use Rattle.tm_twins.specs.Twins.{AreTwins, twin_in};
 ghost use Rattle.tm_twins.specs.Joined.{joined_drive, IsJoined};
-ghost use Rattle.tm_twins.specs.Parts.{KeepsFrame, Gains, HasFrame, IsRefusedForMemory};
 
 use smallvec::SmallVec;
 use std::alloc::Global;
 use tm_bits::NoMemory;
-use tm_circuit::{Circuit, Driver, GatePart, LatchPart, Name, Parts, Signal};
+use tm_circuit::{Circuit, Driver, Parts, Signal};
+use tm_parts::{add_signal, frame};
 
 /// The parts of the circuit with the twin of each pin and each next in its place.
 pub fn joined_parts(alloc: Global, circuit: &Circuit, twins: &[Signal]) -> Result<Parts, NoMemory>
@@ -20,61 +21,32 @@ pub fn joined_parts(alloc: Global, circuit: &Circuit, twins: &[Signal]) -> Resul
     ensures joined { IfOk result (λ parts. IsJoined circuit.now (circuit_of parts)) }
     ensures lawful { IfOk result (λ parts. IsRefusedForMemory (circuit_of parts)) }
 {
-    let mut parts = frame(alloc, circuit)?;
+    let outputs = Vec::from_slice(alloc, circuit.outputs())?;
+    let mut parts = frame(alloc, circuit, outputs)?;
     for s in 0..circuit.signals() {
         let name = circuit.name(Signal(s)).try_clone(alloc)?;
-        add_signal(alloc, &mut parts, twins, name, circuit.driver(Signal(s)))?;
+        let driver = joined_driver(alloc, twins, circuit.driver(Signal(s)))?;
+        add_signal(&mut parts, name, driver)?;
     }
     Ok(parts)
 }
 
-/// The parts of a circuit without its signals.
-fn frame(alloc: Global, circuit: &Circuit) -> Result<Parts, NoMemory>
-    ensures frame { IfOk result (λ parts. HasFrame circuit.now parts) }
-    ensures inputs { IfOk result (λ parts. parts.inputs.items ≡ []) }
-    ensures latches { IfOk result (λ parts. parts.latches.items ≡ []) }
-    ensures gates { IfOk result (λ parts. parts.gates.items ≡ []) }
-{
-    let clock = match circuit.clock() {
-        Some(clock) => Some(clock.try_clone(alloc)?),
-        None => None,
-    };
-    Ok(Parts {
-        model: circuit.model().try_clone(alloc)?,
-        clock,
-        inputs: Vec::new(alloc),
-        latches: Vec::new(alloc),
-        gates: Vec::new(alloc),
-        outputs: Vec::from_slice(alloc, circuit.outputs())?,
-    })
-}
-
-/// Adds a signal at the end of its kind, with the twins of the signals that it reads.
-fn add_signal(
-    alloc: Global,
-    parts: &mut Parts,
-    twins: &[Signal],
-    name: Name,
-    driver: &Driver,
-) -> Result<(), NoMemory>
+/// A driver with the twin of each signal that it reads in its place.
+fn joined_driver(alloc: Global, twins: &[Signal], driver: &Driver) -> Result<Driver, NoMemory>
     requires { ReadsBelow (length twins.now) (drive_of driver.now) }
-    ensures frame { KeepsFrame parts.old parts.new }
-    ensures signal { OnOk result (Gains parts.old parts.new name (joined_drive (twin_in twins.now) (drive_of driver.now))) }
+    ensures { IfOk result (λ joined. drive_of joined ≡ joined_drive (twin_in twins.now) (drive_of driver.now)) }
 {
     match driver {
-        Driver::Input => parts.inputs.push(name)?,
-        Driver::Latch { next, init } => parts.latches.push(LatchPart {
-            name,
+        Driver::Input => Ok(Driver::Input),
+        Driver::Latch { next, init } => Ok(Driver::Latch {
             next: twins[next.0 as usize],
             init: *init,
-        })?,
-        Driver::Gate { pins, cover } => parts.gates.push(GatePart {
-            name,
+        }),
+        Driver::Gate { pins, cover } => Ok(Driver::Gate {
             pins: twins_of_pins(alloc, twins, pins.as_slice())?,
             cover: cover.try_clone(alloc)?,
-        })?,
+        }),
     }
-    Ok(())
 }
 
 /// The twins of some pins, in order.

@@ -6,29 +6,30 @@ use std::alloc::Global;
 use std::test::Fail;
 use tm_bits::Cover;
 use tm_circuit::{Circuit, Driver, GatePart, LatchPart, Name, Parts, Signal};
+use tm_parts::name_of;
 
 /// A letter and a number as a name.
-fn name_of(alloc: Global, letter: &str, number: usize) -> Result<Name, Fail> {
+fn numbered(alloc: Global, letter: &str, number: usize) -> Result<Name, Fail> {
     let text = format!(in alloc; "{letter}{number}")?;
-    Ok(Name::new(Vec::from_slice(alloc, text.as_bytes())?))
+    Ok(name_of(alloc, text.as_bytes())?)
 }
 
 /// The circuit of the input 0, of latches with these nexts and initial values from 1 on, and of one gate, which reads each
 /// latch in order. Each latch is an output.
 fn circuit_of(alloc: Global, latches: &[(u32, bool)]) -> Result<Circuit, Fail> {
     let mut parts = Parts {
-        model: name_of(alloc, "m", 0)?,
+        model: numbered(alloc, "m", 0)?,
         clock: None,
         inputs: Vec::new(alloc),
         latches: Vec::new(alloc),
         gates: Vec::new(alloc),
         outputs: Vec::new(alloc),
     };
-    parts.inputs.push(name_of(alloc, "a", 0)?)?;
+    parts.inputs.push(numbered(alloc, "a", 0)?)?;
     let mut pins = SmallVec::new(alloc);
     for (place, (next, init)) in latches.iter().enumerate() {
         parts.latches.push(LatchPart {
-            name: name_of(alloc, "q", place)?,
+            name: numbered(alloc, "q", place)?,
             next: Signal(*next),
             init: *init,
         })?;
@@ -37,7 +38,7 @@ fn circuit_of(alloc: Global, latches: &[(u32, bool)]) -> Result<Circuit, Fail> {
         pins.push(latch)?;
     }
     parts.gates.push(GatePart {
-        name: name_of(alloc, "g", 0)?,
+        name: numbered(alloc, "g", 0)?,
         pins,
         cover: Cover::new(true, Vec::new(alloc)).ok_or("even rows")?,
     })?;

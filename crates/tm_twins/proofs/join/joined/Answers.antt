@@ -12,12 +12,12 @@ unreachable-requires c = c.in_default.not-NoMemory (c.in_ok-parts.ensures.lawful
 pub returns-in-Ok-clause-bits : goal.returns-in-Ok-clause-bits
 returns-in-Ok-clause-bits c =
     let (is, sound) = c.in-Ok.ensures in
-    subst (λ (j : Plain). HasSameBits c.args.circuit.now j) (sym is) (joined_bits c.args.circuit.now (circuit_of c.in_ok-parts.parts) sound c.in_ok-parts.ensures.joined)
+    subst (λ (j : Plain). HasSameBits c.args.circuit.now j) (sym is) (joined_bits c.args.circuit.now (circuit_of c.in_ok-parts.parts) (c.one_trace.ensures (circuit_of c.in_ok-parts.parts) sound) c.in_ok-parts.ensures.joined)
 
 pub returns-in-Ok-clause-same : goal.returns-in-Ok-clause-same
 returns-in-Ok-clause-same c =
     let (is, sound) = c.in-Ok.ensures in
-    subst (λ (j : Plain). IsSame c.args.circuit.now j) (sym is) (joined_same c.args.circuit.now (circuit_of c.in_ok-parts.parts) sound c.in_ok-parts.ensures.joined)
+    subst (λ (j : Plain). IsSame c.args.circuit.now j) (sym is) (joined_same c.args.circuit.now (circuit_of c.in_ok-parts.parts) (c.same_by_trace.ensures c.args.circuit.now (circuit_of c.in_ok-parts.parts) sound) c.in_ok-parts.ensures.joined)
 
 pub returns-in-Ok-clause-large : goal.returns-in-Ok-clause-large
 returns-in-Ok-clause-large c =

@@ -1,4 +1,5 @@
 use Rattle.tm_twins.proofs.Words.{one_twin, equal_twin, own_twin, twin_settled}
+use Rattle.tm_twins.proofs.SomeTwin.{some_twin}
 use Rattle.tm_twins.proofs.laws.one_twin.Goals as goal
 
 pub returns-clause-one : goal.returns-clause-one
@@ -12,3 +13,6 @@ returns-clause-own c = own_twin
 
 pub returns-clause-settled : goal.returns-clause-settled
 returns-clause-settled c = twin_settled
+
+pub returns-clause-some : goal.returns-clause-some
+returns-clause-some c = some_twin

@@ -1,16 +1,24 @@
-use Rattle.std.proofs.Common.{ℕ, ◌<◌, ◌≤◌, ◌∙◌, Some, length, ap, sym, subst, arith}
+use Rattle.std.proofs.Common.{ℕ, List, ◌≡◌, ◌<◌, ◌≤◌, ◌∙◌, Some, length, ap, sym, subst, arith}
 use Rattle.tm_circuit.specs.Plain.{drive_of}
 use Rattle.tm_circuit.specs.Sound.{ReadsBelow}
 use Rattle.tm_circuit.specs.Build.{circuit_of}
+use Rattle.tm_parts.specs.Parts.{HasFrame}
+use Rattle.tm_parts.proofs.Growing.{first_none, keeps_frame}
 use Rattle.tm_twins.specs.Twins.{twin_in}
 use Rattle.tm_twins.proofs.Growing.{IsNext, one_more_signal, all_signals, reads_at}
 use Rattle.tm_twins.proofs.Soundness.{refused_for_memory}
 use Rattle.tm_twins.proofs.parts.joined_parts.Goals as goal
 
-pub add_signal-requires : goal.add_signal-requires
-add_signal-requires c =
+pub joined_driver-requires : goal.joined_driver-requires
+joined_driver-requires c =
     subst (λ (n : ℕ). ReadsBelow n (drive_of c.driver.result.now)) (sym c.requires.sized)
     (reads_at c.args.circuit.now.drives c.loop-s.s (drive_of c.driver.result.now) c.signals-s-end.ensures.sound.range.reads c.driver.ensures.driver)
+
+pub loop-s-init : goal.loop-s-init
+loop-s-init c = record {
+  frame = subst (λ (ends : List ℕ). HasFrame c.args.circuit.now ends c.in_ok-parts.parts) (c.in_ok-outputs.ensures.items ∙ c.outputs.ensures) c.in_ok-parts.ensures.frame;
+  signals = first_none c.args.circuit.now c.in_ok-parts.parts c.in_ok-parts.ensures.empty;
+}
 
 pub loop-s-preserved : goal.loop-s-preserved
 loop-s-preserved c =
@@ -24,12 +32,8 @@ loop-s-preserved c =
       placed = sound.placed c.loop-s.s (drive_of c.driver.result.now) c.driver.ensures.driver;
     } in
     record {
-      frame = record {
-        model = c.in_ok-add_signal.ensures.frame.model ∙ c.loop-s.invariant.frame.model;
-        clock = c.in_ok-add_signal.ensures.frame.clock ∙ c.loop-s.invariant.frame.clock;
-        outputs = c.in_ok-add_signal.ensures.frame.outputs ∙ c.loop-s.invariant.frame.outputs;
-      };
-      signals = one_more_signal c.args.circuit.now (twin_in c.args.twins.now) c.loop-s.parts c.add_signal.new.parts c.loop-s.s c.in_ok-name.name (drive_of c.driver.result.now) next c.loop-s.invariant.signals c.in_ok-add_signal.ensures.signal;
+      frame = keeps_frame c.args.circuit.now c.args.circuit.now.outputs c.loop-s.parts c.add_signal.new.parts c.loop-s.invariant.frame c.in_ok-add_signal.ensures.frame;
+      signals = one_more_signal c.args.circuit.now (twin_in c.args.twins.now) c.loop-s.parts c.add_signal.new.parts c.loop-s.s c.in_ok-name.name (drive_of c.driver.result.now) (drive_of c.in_ok-driver.driver) next c.loop-s.invariant.signals c.in_ok-driver.ensures c.in_ok-add_signal.ensures.signal;
     }
 
 pub returns-clause-joined : goal.returns-clause-joined

@@ -1,0 +1,5 @@
+pub mod Limits
+pub mod Names
+pub mod Runs
+pub mod Parts
+pub mod Fits
