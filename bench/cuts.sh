@@ -1,11 +1,13 @@
 #!/bin/bash
-# Times cut_or_walks over nets that are never built, with the proved build.
+# Times searches for cuts of nets that are never built, with the proved build.
 #
 #   bench/cuts.sh
 #
 # Layered nets of depth 20 grow from 10^3 to 10^6 nodes, with the cut next to the root: the time of a
 # call stays. Grids grow from 10^4 to 10^6 nodes with the cut at the far side, so that the last search
-# meets every node: the nanoseconds for a met node stay within a factor of two.
+# meets every node: the nanoseconds for a met node stay within a factor of two. Each row has the times
+# of calls of cut_or_walks, which begins without memory, and of calls of one searcher that keeps its own.
+# The last row is a net of which a call meets fewer than ten nodes, after a call that met a million.
 #
 # A program crate is made in a temporary repository beside copies of the crates that it stands on.
 set -eu
@@ -65,9 +67,10 @@ END
 : >"$bench/proofs/Lib.antt"
 
 cat >"$bench/src/main.rt" <<'END'
-//! Times `cut_or_walks` on nets of layers that are never built.
-//! The first rows have the cut next to the root, the others at the far side.
-//! Each row says how many nodes the net has, how long a call takes, and how long for each node.
+//! Times the searches for cuts of nets of layers that are never built.
+//! The first rows have the cut next to the root, the next ones at the far side.
+//! Each row says how many nodes the net has, how long a call takes, and how long for each node: without
+//! memory at first, and by a searcher that keeps its memory. The last row is a small net.
 #![tactic(auto)]
 
 ghost use Rattle.std.specs.Prelude.{◌≤◌};
@@ -79,10 +82,20 @@ use net::Layers;
 use node::Node;
 use std::io;
 use std::rt::Clock;
-use std::time::Instant;
-use tm_flow::{Found, cut_or_walks};
+use std::time::{Duration, Instant};
+use tm_bits::NoMemory;
+use tm_flow::{Found, Searcher, cut_or_walks};
 
-fn search<R: Clock + Alloc + AllocGlobal>(rt: &R, net: &Layers, k: u32) -> io::Result<u64>
+/// The nanoseconds of a call that gave an answer.
+fn nanoseconds(found: Result<Found<Node>, NoMemory>, time: Duration) -> u64 {
+    match found {
+        Ok(_found) => u64::try_from(time.as_nanos()).unwrap_or(0),
+        Err(_no_memory) => 0,
+    }
+}
+
+/// A call without memory at first.
+fn fresh<R: Clock + Alloc + AllocGlobal>(rt: &R, net: &Layers, k: u32) -> io::Result<u64>
     requires { k ≤ 8 }
 {
     let root = Node { layer: net.depth, place: 0 };
@@ -92,36 +105,66 @@ fn search<R: Clock + Alloc + AllocGlobal>(rt: &R, net: &Layers, k: u32) -> io::R
     let start = Instant::now(rt)?;
     let found = cut_or_walks(rt.alloc(), net, root, k);
     let time = start.elapsed(rt)?;
-    match found {
-        Ok(Found::Cut(nodes)) => {
-            let _ = nodes.len();
-        }
-        Ok(Found::Walks(_walks)) => {}
-        Err(_no_memory) => return Ok(0),
+    Ok(nanoseconds(found, time))
+}
+
+/// A call of the searcher.
+fn kept<R: Clock + Alloc + AllocGlobal>(
+    rt: &R,
+    searcher: &mut Searcher<Node>,
+    net: &Layers,
+    k: u32,
+) -> io::Result<u64>
+    requires { k ≤ 8 }
+{
+    let root = Node { layer: net.depth, place: 0 };
+    if net.depth == 0 {
+        return Ok(0);
     }
-    Ok(u64::try_from(time.as_nanos()).unwrap_or(0))
+    let start = Instant::now(rt)?;
+    let found = searcher.cut_or_walks(rt.alloc(), net, root, k);
+    let time = start.elapsed(rt)?;
+    Ok(nanoseconds(found, time))
+}
+
+/// The least times of some calls, without memory at first and of the searcher.
+fn least<R: Clock + Alloc + AllocGlobal>(
+    rt: &R,
+    searcher: &mut Searcher<Node>,
+    net: &Layers,
+    k: u32,
+    calls: u32,
+) -> io::Result<(u64, u64)>
+    requires { k ≤ 8 }
+{
+    let mut first = u64::MAX;
+    let mut again = u64::MAX;
+    for _ in 0..calls {
+        first = first.min(fresh(rt, net, k)?);
+        again = again.min(kept(rt, searcher, net, k)?);
+    }
+    Ok((first, again))
 }
 
 fn main(rt: HostRuntime) -> io::Result<()> {
+    let mut searcher = Searcher::new(rt.alloc());
     for width in [50u32, 500, 5000, 50000] {
         let net = Layers { depth: 20, width, stride: width / 3, cut: 19 };
-        let mut least = u64::MAX;
-        for _ in 0..20u32 {
-            least = least.min(search(&rt, &net, 2)?);
-        }
+        let (first, again) = least(&rt, &mut searcher, &net, 2, 20)?;
         let nodes = u64::from(width) * 20;
-        println!(rt; "near cut: {nodes} nodes, {least} ns a call")?;
+        println!(rt; "near cut: {nodes} nodes, {first} ns a call, {again} ns by a searcher")?;
     }
     for depth in [140u32, 445, 1410] {
         let net = Layers { depth, width: depth + 1, stride: 1, cut: 1 };
-        let mut least = u64::MAX;
-        for _ in 0..5u32 {
-            least = least.min(search(&rt, &net, 4)?);
-        }
+        let (first, again) = least(&rt, &mut searcher, &net, 4, 5)?;
         let nodes = u64::from(depth) * u64::from(depth) / 2;
-        let each = least / nodes.max(1);
-        println!(rt; "far cut: {nodes} nodes met, {least} ns a call, {each} ns a node")?;
+        let each = first / nodes.max(1);
+        let each_again = again / nodes.max(1);
+        println!(rt; "far cut: {nodes} nodes met, {first} ns a call, {each} ns a node, {again} ns and {each_again} ns a node by a searcher")?;
     }
+    let net = Layers { depth: 3, width: 2, stride: 1, cut: 2 };
+    let (first, again) = least(&rt, &mut searcher, &net, 2, 1000)?;
+    println!(rt; "fewer than ten nodes met: {first} ns a call, {again} ns by a searcher")?;
     Ok(())
 }
 END

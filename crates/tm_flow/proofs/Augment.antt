@@ -1,6 +1,6 @@
 -- A flow grows: the steps of a way are undone from its end back to the root, with the walk from there
 -- to an end in hand. A node that may be cut is come to at most once, where the near side in hand counts too.
-use Rattle.std.proofs.Common.{◌≡◌, ℕ, ◌+◌, ◌-◌, ◌<◌, ◌≤◌, Bool, true, false, cond, true≢false, inl, inr, List, [], ◌∷◌, ◌++◌, length, refl, sym, ap, subst, ◌∙◌, length-append, arith}
+use Rattle.std.proofs.Common.{◌≡◌, ℕ, ◌+◌, ◌-◌, ◌<◌, ◌≤◌, Bool, true, false, cond, true≢false, ◌⊎◌, inl, inr, List, [], ◌∷◌, ◌++◌, length, refl, sym, ap, subst, ◌∙◌, length-append, arith}
 use Rattle.tm_flow.specs.Lists.{Has, Each, At}
 use Rattle.tm_flow.specs.Nets.{Shape}
 use Rattle.tm_flow.specs.Flows.{Leads, InFlow, BeginsWith, hits, all_hits, edges_to, all_edges_to, IsFlow, TakesBack}
@@ -36,11 +36,11 @@ module _ {T : Type 0} where
     hits_join v [] ys = omega arith
     hits_join v (x ∷ xs) ys = omega (arith, hits_join v xs ys)
 
-    all_hits_join : (v : T) (ws us : List (List (Edge T))) → all_hits eq v (ws ++ us) ≡ all_hits eq v ws + all_hits eq v us
+    pub all_hits_join : (v : T) (ws us : List (List (Edge T))) → all_hits eq v (ws ++ us) ≡ all_hits eq v ws + all_hits eq v us
     all_hits_join v [] us = omega arith
     all_hits_join v (w ∷ ws) us = omega (arith, all_hits_join v ws us)
 
-    hits_count : (v : T) (w : List (Edge T)) → hits eq v w ≡ length (edges_to eq v w)
+    pub hits_count : (v : T) (w : List (Edge T)) → hits eq v w ≡ length (edges_to eq v w)
     hits_count v [] = refl
     hits_count v (e ∷ w) = by (eq e.to v) (hits_count v w)
       where
@@ -52,7 +52,7 @@ module _ {T : Type 0} where
     all_hits_count v [] = refl
     all_hits_count v (w ∷ ws) = omega (arith, hits_count v w, all_hits_count v ws, length-append (edges_to eq v w) (all_edges_to eq v ws))
 
-    edges_to_has : ((x y : T) → eq x y ≡ true → x ≡ y) → (v : T) (w : List (Edge T)) (e : Edge T) → Has (edges_to eq v w) e → Has w e × (e.to ≡ v)
+    pub edges_to_has : ((x y : T) → eq x y ≡ true → x ≡ y) → (v : T) (w : List (Edge T)) (e : Edge T) → Has (edges_to eq v w) e → Has w e × (e.to ≡ v)
     edges_to_has same v [] e h = absurd h
     edges_to_has same v (d ∷ w) e h = by (eq d.to v) refl h (edges_to_has same v w e)
       where
@@ -380,3 +380,35 @@ module _ {T : Type 0} where
   undone_length p (Back i) q ws t ws' t' (inr x) =
       let e : Edge T = record { from = q.node; index = i; to = p.node } in
       ap length x.4 ∙ length-append x.0 ((x.2 ++ t) ∷ x.1) ∙ sym (ap length x.3 ∙ length-append x.0 ((x.2 ++ e ∷ t') ∷ x.1))
+
+  -- what is on the walks or in hand after a step is undone was there before, or comes to the node of the step's side
+  pub undone_edges : (p : Side T) (step : Step) (q : Side T) (ws : List (List (Edge T))) (t : List (Edge T)) (ws' : List (List (Edge T))) (t' : List (Edge T))
+      → IsUndone p step q ws t ws' t' → (d : Edge T) → InFlow (t' ∷ ws') d → InFlow (t ∷ ws) d ⊎ (q.node ≡ d.to)
+  undone_edges p (Read i) q ws t ws' t' u d (inl h) =
+      elim (subst (λ l. Has l d) u.1 h) [ inl new ↦ inr (ap (λ x. x.to) new) | inr old ↦ inl (inl old) ]
+  undone_edges p (Read i) q ws t ws' t' u d (inr h) = inl (inr (subst (λ l. InFlow l d) u.0 h))
+  undone_edges p Cross q ws t ws' t' u d (inl h) = inl (inl (subst (λ l. Has l d) u.1 h))
+  undone_edges p Cross q ws t ws' t' u d (inr h) = inl (inr (subst (λ l. InFlow l d) u.0 h))
+  undone_edges p Return q ws t ws' t' u d (inl h) = inl (inl (subst (λ l. Has l d) u.1 h))
+  undone_edges p Return q ws t ws' t' u d (inr h) = inl (inr (subst (λ l. InFlow l d) u.0 h))
+  undone_edges p (Back i) q ws t ws' t' (inl pop) d (inl h) = inl (inl (subst (λ l. Has l d) (sym pop.0) (inr h)))
+  undone_edges p (Back i) q ws t ws' t' (inl pop) d (inr h) = inl (inr (subst (λ l. InFlow l d) pop.1 h))
+  undone_edges p (Back i) q ws t ws' t' (inr x) d (inl h) =
+      let e : Edge T = record { from = q.node; index = i; to = p.node } in
+      inl (inr (subst (λ l. InFlow l d) (sym x.3) (in_flow_right x.0 ((x.2 ++ e ∷ t') ∷ x.1) d (inl (has_right x.2 (e ∷ t') d (inr h))))))
+  undone_edges p (Back i) q ws t ws' t' (inr x) d (inr h) =
+      let e : Edge T = record { from = q.node; index = i; to = p.node } in
+      elim (in_flow_either x.0 ((x.2 ++ t) ∷ x.1) d (subst (λ l. InFlow l d) x.4 h)) [
+        | inl before ↦ inl (inr (subst (λ l. InFlow l d) (sym x.3) (in_flow_left x.0 ((x.2 ++ e ∷ t') ∷ x.1) d before)))
+        | inr there ↦ elim there [
+          | inl on ↦ elim (has_either x.2 t d on) [
+            | inl front ↦ inl (inr (subst (λ l. InFlow l d) (sym x.3) (in_flow_right x.0 ((x.2 ++ e ∷ t') ∷ x.1) d (inl (has_left x.2 (e ∷ t') d front)))))
+            | inr hand ↦ inl (inl hand)
+          ]
+          | inr after ↦ inl (inr (subst (λ l. InFlow l d) (sym x.3) (in_flow_right x.0 ((x.2 ++ e ∷ t') ∷ x.1) d (inr after))))
+        ]
+      ]
+
+  -- the walks and the walk in hand as one list
+  pub in_hand_too : (ws : List (List (Edge T))) (t : List (Edge T)) (d : Edge T) → InFlow (ws ++ t ∷ []) d → InFlow (t ∷ ws) d
+  in_hand_too ws t d h = elim (in_flow_either ws (t ∷ []) d h) [ inl a ↦ inr a | inr b ↦ elim b [ inl on ↦ inl on | inr none ↦ absurd none ] ]

@@ -1,8 +1,8 @@
 -- Where a search ends with no end met, the first unmet node of each walk of the flow makes a cut.
 use Rattle.std.proofs.Common.{◌≡◌, ℕ, ◌+◌, ◌<◌, ◌≤◌, suc, Bool, true, false, cond, true≢false, ◌⊎◌, inl, inr, List, [], ◌∷◌, ◌++◌, length, Option, Some, None, option_to_list, is_some, refl, sym, ap, subst, ◌∙◌, arith}
 use Rattle.tm_flow.specs.Lists.{Has, Each, AreApart}
-use Rattle.tm_flow.specs.Nets.{Shape, IsPath, IsWalk, nodes_of}
-use Rattle.tm_flow.specs.Cuts.{Covers, IsCut}
+use Rattle.tm_flow.specs.Nets.{Shape, IsPath, IsIndexWalk, nodes_of}
+use Rattle.tm_flow.specs.Cuts.{MeetsAllWalks, IsCut}
 use Rattle.tm_flow.specs.Flows.{Leads, InFlow, hits, all_hits, edges_to, all_edges_to, IsFlow}
 use Rattle.tm_flow.specs.Searches.{near, far, IsSearchedOut, first_unmet, all_first_unmet}
 use Rattle.tm_flow.specs.declared.flow.Edge.{Edge}
@@ -48,7 +48,7 @@ module _ {T : Type 0} (n : Shape T) (eq : T → T → Bool) (same : (x y : T) �
       by false e = absurd (unmet_if v u (over v m (inl e)))
 
   -- a walk to an end leaves the far sides that were met
-  leaves : (is : List ℕ) (x : T) → IsMet (far x) → IsWalk n x is → (v : T) × Has (nodes_of n x is) v × IsMet (near v) × (met v ≡ false)
+  leaves : (is : List ℕ) (x : T) → IsMet (far x) → IsIndexWalk n x is → (v : T) × Has (nodes_of n x is) v × IsMet (near v) × (met v ≡ false)
   leaves [] x m w = absurd (no_end x m w)
   leaves (i ∷ is) x m w =
       by_met (n.read x i)
@@ -100,7 +100,7 @@ module _ {T : Type 0} (n : Shape T) (eq : T → T → Bool) (same : (x y : T) �
       (subst (λ o. Has (option_to_list o) v) (sym (ap (first_unmet met) e ∙ f)) (inl refl))
   has_firsts (u ∷ us) w v (inr h) f = has_right (option_to_list (first_unmet met u)) (all_first_unmet met us) v (has_firsts us w v h f)
 
-  covers : Covers n root (all_first_unmet met ws)
+  covers : MeetsAllWalks n root (all_first_unmet met ws)
   covers is w = let v = leaves is root start w in by v.0 v.1 v.2 v.3 (all_edges_to eq v.0 ws) refl
     where
       by : (v : T) → Has (nodes_of n root is) v → IsMet (near v) → met v ≡ false → (edges : List (Edge T)) → all_edges_to eq v ws ≡ edges

@@ -62,7 +62,7 @@ module _ {T : Type 0} (n : Shape T) where
   pub reaches_here : (x : T) → Reaches n x x
   reaches_here x = ([], tt, refl)
 
-  reaches_read : (x v : T) (i : ℕ) → Reaches n x v → i < n.reads v → Reaches n x (n.read v i)
+  pub reaches_read : (x v : T) (i : ℕ) → Reaches n x v → i < n.reads v → Reaches n x (n.read v i)
   reaches_read x v i r lt = on r.0 x v r.1 r.2 lt
     where
       on : (is : List ℕ) (y w : T) → IsPath n y is → node_after n y is ≡ w → i < n.reads w → Reaches n y (n.read w i)

@@ -45,39 +45,31 @@ module _ {T : Type 0} (eq : T → T → Bool) where
         (λ there. test ∙ ap (λ x. edge_eq here x) (sym (at_same w place here e at there)) ∙ edge_self self here),
       )
 
-  pub edges_to_join : (v : T) (xs ys : List (Edge T)) → edges_to eq v (xs ++ ys) ≡ edges_to eq v xs ++ edges_to eq v ys
-  edges_to_join v [] ys = refl
-  edges_to_join v (x ∷ xs) ys = by (eq x.to v) (edges_to_join v xs ys)
-    where
-      by : (b : Bool) → edges_to eq v (xs ++ ys) ≡ edges_to eq v xs ++ edges_to eq v ys
-          → cond b (x ∷ edges_to eq v (xs ++ ys)) (edges_to eq v (xs ++ ys)) ≡ cond b (x ∷ edges_to eq v xs) (edges_to eq v xs) ++ edges_to eq v ys
-      by true h = ap (λ l. x ∷ l) h
-      by false h = h
+  -- what comparing the node that the edge with an index comes to tells
+  pub comes_to_cases : ((x y : T) → eq x y ≡ true → x ≡ y) → ((x : T) → eq x x ≡ true)
+      → (w : List (Edge T)) (place : ℕ) (here : Edge T) (v : T) (answer : Bool) → place < length w → here ≡ get_or w place here → answer ≡ eq here.to v
+      → (answer ≡ true → (e : Edge T) × At w place e × (e.to ≡ v)) × ((e : Edge T) × At w place e × (e.to ≡ v) → answer ≡ true)
+  comes_to_cases same self w place here v answer lt is test =
+      let at : At w place here = subst (At w place) (sym is) (at_get_or w place here lt) in (
+        (λ yes. (here, at, same here.to v (sym test ∙ yes))),
+        (λ there. test ∙ ap (λ x. eq x v) (ap (λ x. x.to) (at_same w place here there.0 at there.1) ∙ there.2) ∙ self v),
+      )
 
-  pub all_edges_to_join : (v : T) (ws us : List (List (Edge T))) → all_edges_to eq v (ws ++ us) ≡ all_edges_to eq v ws ++ all_edges_to eq v us
+  all_edges_to_join : (v : T) (ws us : List (List (Edge T))) → all_edges_to eq v (ws ++ us) ≡ all_edges_to eq v ws ++ all_edges_to eq v us
   all_edges_to_join v [] us = refl
   all_edges_to_join v (w ∷ ws) us =
       ap (λ l. edges_to eq v w ++ l) (all_edges_to_join v ws us) ∙ sym (append_assoc (edges_to eq v w) (all_edges_to eq v ws) (all_edges_to eq v us))
 
-  -- one more edge
-  pub edges_to_more : (v : T) (old now new : List (Edge T)) (w : List (Edge T)) (i : ℕ) (e : Edge T) → i < length w → e ≡ get_or w i e
-      → now ≡ old ++ edges_to eq v (take i w) → new ≡ now ++ edges_to eq v (e ∷ [])
-      → new ≡ old ++ edges_to eq v (take (i + 1) w)
-  edges_to_more v old now new w i e lt is before step =
-      let more : take (i + 1) w ≡ take i w ++ e ∷ [] = take_more w i e lt ∙ ap (λ x. take i w ++ x ∷ []) (sym is) in
-      step ∙ ap (λ l. l ++ edges_to eq v (e ∷ [])) before ∙ append_assoc old (edges_to eq v (take i w)) (edges_to eq v (e ∷ []))
-      ∙ ap (λ l. old ++ l) (sym (edges_to_join v (take i w) (e ∷ [])) ∙ ap (edges_to eq v) (sym more))
-
   -- one more walk
-  pub all_edges_to_more : {V : Type 0} (f : V → List (Edge T)) (v : T) (now new : List (Edge T)) (ws : List V) (i : ℕ) (w : V) → i < length ws → w ≡ get_or ws i w
-      → now ≡ all_edges_to eq v (map f (take i ws)) → new ≡ now ++ edges_to eq v (f w)
-      → new ≡ all_edges_to eq v (map f (take (i + 1) ws))
-  all_edges_to_more f v now new ws i w lt is before step =
+  pub all_edges_to_more : {V : Type 0} (f : V → List (Edge T)) (v : T) (old now new : List (Edge T)) (ws : List V) (i : ℕ) (w : V) → i < length ws → w ≡ get_or ws i w
+      → now ≡ old ++ all_edges_to eq v (map f (take i ws)) → new ≡ now ++ edges_to eq v (f w)
+      → new ≡ old ++ all_edges_to eq v (map f (take (i + 1) ws))
+  all_edges_to_more {V} f v old now new ws i w lt is before step =
       let more : take (i + 1) ws ≡ take i ws ++ w ∷ [] = take_more ws i w lt ∙ ap (λ x. take i ws ++ x ∷ []) (sym is) in
-      step ∙ ap (λ l. l ++ edges_to eq v (f w)) before
-      ∙ ap (λ l. all_edges_to eq v (map f (take i ws)) ++ l) (sym (append-nil (edges_to eq v (f w))))
-      ∙ sym (all_edges_to_join v (map f (take i ws)) (f w ∷ []))
-      ∙ ap (all_edges_to eq v) (sym (map-append f (take i ws) (w ∷ [])) ∙ ap (map f) (sym more))
+      let all = λ (us : List V). all_edges_to eq v (map f us) in
+      step ∙ ap (λ l. l ++ edges_to eq v (f w)) before ∙ append_assoc old (all (take i ws)) (edges_to eq v (f w))
+      ∙ ap (λ l. old ++ (all (take i ws) ++ l)) (sym (append-nil (edges_to eq v (f w))))
+      ∙ ap (λ l. old ++ l) (sym (all_edges_to_join v (map f (take i ws)) (f w ∷ [])) ∙ ap (all_edges_to eq v) (sym (map-append f (take i ws) (w ∷ [])) ∙ ap (map f) (sym more)))
 
 module _ {T : Type 0} where
   pub in_flow_either : (ws us : List (List (Edge T))) (e : Edge T) → InFlow (ws ++ us) e → InFlow ws e ⊎ InFlow us e
@@ -230,6 +222,51 @@ module _ {T : Type 0} (n : Shape T) (falls : (x : T) (i : ℕ) → i < n.reads x
               let lt_place : place < length w = omega arith in
               let low : n.rank (get_or w place e).from ≤ n.rank e.from = ltb-false (n.rank e.from) (n.rank (get_or w place e).from) (point.1 place e (omega arith) lt_place) in
               let fall : n.rank e.from < n.rank (get_or w place e).from = ranks_fall w x place there.0 (get_or w place e) e l (at_get_or w place e lt_place) there.1 later in
+              let c : ⊥ = omega arith in absurd c
+          | inr here ↦ let same : there.0 ≡ place = omega arith in not_here (subst (λ k. At w k e) same there.1)
+        ]
+      ]
+
+  -- the ranks of the nodes that a walk comes to fall too
+  to_below : (w : List (Edge T)) (x : T) (e : Edge T) → Leads n x w → Has w e → n.rank e.to < n.rank x
+  to_below [] x e l h = absurd h
+  to_below (d ∷ w) x e l (inl same) = omega (arith, ap n.rank l.2, ap (λ u. n.rank u.to) same, falls x d.index l.1)
+  to_below (d ∷ w) x e l (inr h) = omega (arith, ap n.rank l.2, to_below w d.to e l.3 h, falls x d.index l.1)
+
+  pub ranks_fall_to : (w : List (Edge T)) (x : T) (i j : ℕ) (e f : Edge T) → Leads n x w → At w i e → At w j f → i < j → n.rank f.to < n.rank e.to
+  ranks_fall_to [] x i j e f l a b lt = absurd a
+  ranks_fall_to (d ∷ w) x i zero e f l a b lt = let c : ⊥ = omega arith in absurd c
+  ranks_fall_to (d ∷ w) x zero (suc j) e f l a b lt = omega (arith, ap (λ u. n.rank u.to) a, to_below w d.to f l.3 (at_has w j f b))
+  ranks_fall_to (d ∷ w) x (suc i) (suc j) e f l a b lt = let less : i < j = omega arith in ranks_fall_to w d.to i j e f l.3 a b less
+
+  pub parted_to : (rank : ℕ) (w : List (Edge T)) (x : T) → Leads n x w → IsPartitionedBy (λ e. nat_lt rank (n.rank e.to)) w
+  parted_to rank w x l i j d le lt above =
+      let lti : i < length w = omega arith in
+      elim (cases_lt i j) [
+        | inl less ↦
+            let fall : n.rank (get_or w j d).to < n.rank (get_or w i d).to = ranks_fall_to w x i j (get_or w i d) (get_or w j d) l (at_get_or w i d lti) (at_get_or w j d lt) less in
+            let low : rank < n.rank (get_or w j d).to = ltb-true rank (n.rank (get_or w j d).to) above in
+            lt-ltb rank (n.rank (get_or w i d).to) (omega arith)
+        | inr more ↦ let e : j ≡ i = omega arith in subst (λ k. nat_lt rank (n.rank (get_or w k d).to) ≡ true) e above
+      ]
+
+  -- an edge to a node stands where the ranks above the node's end, or nowhere
+  pub absent_to : (w : List (Edge T)) (x : T) (e : Edge T) (place : ℕ) → Leads n x w
+      → IsPartitionPoint (λ f. nat_lt (n.rank e.to) (n.rank f.to) ≡ true) (λ f. nat_lt (n.rank e.to) (n.rank f.to) ≡ false) w place
+      → (At w place e → ⊥) → Has w e → ⊥
+  absent_to w x e place l point not_here h =
+      let there : (i : ℕ) × At w i e = has_at w e h in
+      let lt : there.0 < length w = at_within w there.0 e there.1 in
+      elim (cases_lt there.0 place) [
+        | inl before ↦
+            let above : n.rank e.to < n.rank (get_or w there.0 e).to = ltb-true (n.rank e.to) (n.rank (get_or w there.0 e).to) (point.0 there.0 e (omega arith) before) in
+            let same : n.rank (get_or w there.0 e).to ≡ n.rank e.to = ap (λ u. n.rank u.to) (get_or_at w there.0 e e there.1) in
+            let c : ⊥ = omega arith in absurd c
+        | inr after ↦ elim (cases_lt place there.0) [
+          | inl later ↦
+              let lt_place : place < length w = omega arith in
+              let low : n.rank (get_or w place e).to ≤ n.rank e.to = ltb-false (n.rank e.to) (n.rank (get_or w place e).to) (point.1 place e (omega arith) lt_place) in
+              let fall : n.rank e.to < n.rank (get_or w place e).to = ranks_fall_to w x place there.0 (get_or w place e) e l (at_get_or w place e lt_place) there.1 later in
               let c : ⊥ = omega arith in absurd c
           | inr here ↦ let same : there.0 ≡ place = omega arith in not_here (subst (λ k. At w k e) same there.1)
         ]

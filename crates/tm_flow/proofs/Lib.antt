@@ -1,6 +1,8 @@
 pub mod ListLemmas
 pub mod PlaceLemmas
 pub mod Menger
+pub mod BarrierLemmas
+pub mod JudgeLemmas
 pub mod MarkLemmas
 pub mod KeyLemmas
 pub mod Finite
@@ -8,6 +10,8 @@ pub mod SearchLemmas
 pub mod FlowLemmas
 pub mod Augment
 pub mod WalkLemmas
+pub mod ToLemmas
+pub mod UseLemmas
 pub mod Cover
 pub mod FirstLemmas
 pub mod Final

@@ -1,14 +1,14 @@
 -- The nodes that a search has numbered, and their marks.
-use Rattle.std.proofs.Common.{◌≡◌, ℕ, ◌+◌, ◌*◌, ◌<◌, ◌≤◌, zero, suc, Bool, true, false, cond, ◌||◌, true≢false, ◌⊎◌, inl, inr, List, [], ◌∷◌, ◌++◌, length, length-append, set, length-set, get_or, slice_get, Some, not, if◌then◌else◌, refl, sym, ap, subst, ◌∙◌, arith}
+use Rattle.std.proofs.Common.{◌≡◌, ℕ, ◌+◌, ◌*◌, ◌<◌, ◌≤◌, zero, suc, Bool, true, false, cond, ◌||◌, true≢false, ◌⊎◌, inl, inr, List, [], ◌∷◌, ◌++◌, length, length-append, set, length-set, map, get_or, slice_get, Some, not, if◌then◌else◌, refl, sym, ap, subst, ◌∙◌, arith}
 use Rattle.std.specs.List.{list_any}
 use Rattle.std.proofs.lemmas.List.Sums.{sum_by-cons, sum_by-append, sum_by-set}
 use Rattle.indexmap.specs.IndexSet.{insert_key}
 use Rattle.tm_flow.specs.Lists.{Has, AreApart, At}
-use Rattle.tm_flow.specs.Searches.{mark_of, with_mark, no_marks, marks_in, count_of, IsNumbered, IsMarked, Names}
+use Rattle.tm_flow.specs.Searches.{mark_of, with_mark, no_marks, marks_in, count_of, unmet, IsNumbered, IsMarked, IsUsed, Names}
 use Rattle.tm_flow.specs.declared.search.Marks.{Marks}
 use Rattle.tm_flow.specs.declared.search.Side.{Side}
 use Rattle.tm_flow.proofs.ListLemmas.{has_either, apart_push}
-use Rattle.tm_flow.proofs.PlaceLemmas.{at_from_get, at_left, at_either, at_within, at_same, at_once, get_or_at}
+use Rattle.tm_flow.proofs.PlaceLemmas.{at_map, at_image, at_from_get, at_left, at_either, at_within, at_same, at_once, get_or_at}
 
 mark_with : (m : Marks) (f : Bool) → mark_of (with_mark m f) f ≡ true
 mark_with m true = refl
@@ -25,6 +25,10 @@ mark_only m true true h = inr refl
 mark_only m true false h = inl h
 mark_only m false true h = inl h
 mark_only m false false h = inr refl
+
+use_kept : (m : Marks) (f : Bool) → m.used ≡ true → (with_mark m f).used ≡ true
+use_kept m true h = h
+use_kept m false h = h
 
 no_mark : (f : Bool) → mark_of no_marks f ≡ true → ⊥
 no_mark true h = true≢false (sym h)
@@ -48,14 +52,14 @@ count_few [] = omega arith
 count_few (m ∷ ms) = let a = sum_by-cons marks_in m ms in let b = count_few ms in let c = marks_few m in omega arith
 
 module _ {X : Type 0} where
-  at_set : (xs : List X) (i j : ℕ) (x y : X) → At xs j x → ((i ≡ j) × At (set xs i y) j y) ⊎ At (set xs i y) j x
+  pub at_set : (xs : List X) (i j : ℕ) (x y : X) → At xs j x → ((i ≡ j) × At (set xs i y) j y) ⊎ At (set xs i y) j x
   at_set [] i j x y h = absurd h
   at_set (z ∷ zs) zero zero x y h = inl (refl, refl)
   at_set (z ∷ zs) zero (suc j) x y h = inr h
   at_set (z ∷ zs) (suc i) zero x y h = inr h
   at_set (z ∷ zs) (suc i) (suc j) x y h = elim (at_set zs i j x y h) [ inl a ↦ inl (ap suc a.0, a.1) | inr b ↦ inr b ]
 
-  at_set_here : (xs : List X) (i : ℕ) (x y : X) → At xs i x → At (set xs i y) i y
+  pub at_set_here : (xs : List X) (i : ℕ) (x y : X) → At xs i x → At (set xs i y) i y
   at_set_here [] i x y h = absurd h
   at_set_here (z ∷ zs) zero x y h = refl
   at_set_here (z ∷ zs) (suc i) x y h = at_set_here zs i x y h
@@ -68,11 +72,17 @@ module _ {X : Type 0} where
   at_set_either (x ∷ xs) (suc i) (suc j) y z h = elim (at_set_either xs i j y z h) [ inl a ↦ inl (ap suc a.0, a.1) | inr b ↦ inr b ]
 
 module _ {T : Type 0} where
-  pub none_marked : (p : Side T) → IsMarked [] [] p → ⊥
-  none_marked p h = absurd h.2
+  -- once no side has been met, the nodes keep their numbers and uses
+  pub none_marked : (nodes : List T) (marks : List Marks) (p : Side T) → IsMarked nodes (map unmet marks) p → ⊥
+  none_marked nodes marks p h =
+      let was = at_map unmet marks h.0 h.1 h.3 in no_mark_left was.0 p.is_far (ap (λ m. mark_of m p.is_far) was.2 ∙ h.4)
+    where
+      no_mark_left : (m : Marks) (f : Bool) → mark_of (unmet m) f ≡ true → ⊥
+      no_mark_left m true h = true≢false (sym h)
+      no_mark_left m false h = true≢false (sym h)
 
-  pub nothing_numbered : IsNumbered {T = T} [] []
-  nothing_numbered = record { apart = tt; even = refl }
+  pub used_unmet : (nodes : List T) (marks : List Marks) (v : T) → IsUsed nodes marks v → IsUsed nodes (map unmet marks) v
+  used_unmet nodes marks v k = (k.0, unmet k.1, k.2, at_image unmet marks k.0 k.1 k.3, k.4)
 
   -- one more mark, of the side f of the node with the number i
   module _ (nodes : List T) (marks : List Marks) (numbered : IsNumbered nodes marks) (i : ℕ) (p : Side T) (m : Marks) (here : At nodes i p.node) (has : At marks i m) where
@@ -96,6 +106,16 @@ module _ {T : Type 0} where
             | inl a ↦
                 let is : m ≡ k.1 = at_same marks k.0 m k.1 (subst (λ j. At marks j m) a.0 has) k.3 in
                 (k.0, with_mark m p.is_far, k.2, a.1, mark_kept m p.is_far q.is_far (ap (λ x. mark_of x q.is_far) is ∙ k.4))
+            | inr b ↦ (k.0, k.1, k.2, b, k.4)
+          ])
+
+      pub used_stays : (v : T) → IsUsed nodes marks v → IsUsed nodes marks' v
+      used_stays v k =
+          subst (λ l. IsUsed nodes l v) (sym written)
+          (elim (at_set marks i k.0 k.1 (with_mark m p.is_far) k.3) [
+            | inl a ↦
+                let is : m ≡ k.1 = at_same marks k.0 m k.1 (subst (λ j. At marks j m) a.0 has) k.3 in
+                (k.0, with_mark m p.is_far, k.2, a.1, use_kept m p.is_far (ap (λ x. x.used) is ∙ k.4))
             | inr b ↦ (k.0, k.1, k.2, b, k.4)
           ])
 
@@ -134,6 +154,7 @@ module _ {T : Type 0} where
     named = λ u h. inl (subst (λ l. Has l u) same h);
     stays = λ p h. subst (λ l. IsMarked l marks p) (sym same) h;
     only = λ p h. subst (λ l. IsMarked l marks p) same h;
+    used = λ u h. subst (λ l. IsUsed l marks u) (sym same) h;
     count = refl;
   }
 
@@ -151,6 +172,9 @@ module _ {T : Type 0} where
     stays = λ p h.
         subst (λ l. IsMarked l marks' p) (sym more) (subst (λ l. IsMarked (nodes ++ v ∷ []) l p) (sym marks_more)
         (h.0, h.1, at_left nodes (v ∷ []) h.0 p.node h.2, at_left marks (no_marks ∷ []) h.0 h.1 h.3, h.4));
+    used = λ u h.
+        subst (λ l. IsUsed l marks' u) (sym more) (subst (λ l. IsUsed (nodes ++ v ∷ []) l u) (sym marks_more)
+        (h.0, h.1, at_left nodes (v ∷ []) h.0 u h.2, at_left marks (no_marks ∷ []) h.0 h.1 h.3, h.4));
     only = λ p h. only p (subst (λ l. IsMarked l (marks ++ no_marks ∷ []) p) more (subst (λ l. IsMarked nodes' l p) marks_more h));
     count = ap count_of marks_more ∙ sum_by-append marks_in marks (no_marks ∷ []) ∙ omega arith;
   }

@@ -1,12 +1,12 @@
 -- A barrier leaves no cover of at most k nodes that may be cut: each walk needs a node of its own.
 use Rattle.std.proofs.Common.{◌≡◌, ℕ, ◌+◌, ◌≤◌, inl, inr, true, true≢false, List, [], ◌∷◌, length, refl, sym, ◌∙◌, arith}
 use Rattle.tm_flow.specs.Lists.{Has, Each, AreApart}
-use Rattle.tm_flow.specs.Nets.{Shape, IsWalk, nodes_of}
-use Rattle.tm_flow.specs.Cuts.{Covers, AreDisjoint, IsBarrier, BarrierExcludesCovers}
+use Rattle.tm_flow.specs.Nets.{Shape, IsIndexWalk, nodes_of}
+use Rattle.tm_flow.specs.Cuts.{MeetsAllWalks, AreDisjoint, IsBarrier, BarrierExcludesCovers}
 use Rattle.tm_flow.proofs.ListLemmas.{each_has, each_as, apart_within}
 
 module _ {T : Type 0} (n : Shape T) (x : T) (nodes : List T)
-    (may : (v : T) → Has nodes v → n.may_cut v ≡ true) (covers : Covers n x nodes) where
+    (may : (v : T) → Has nodes v → n.may_cut v ≡ true) (covers : MeetsAllWalks n x nodes) where
   -- one of the nodes for each walk, all of them different
   record Choice (ws : List (List ℕ)) : Type 0 where
     pub chosen : List T
@@ -15,7 +15,7 @@ module _ {T : Type 0} (n : Shape T) (x : T) (nodes : List T)
     pub among : Each (Has nodes) chosen
     pub on_walks : Each (λ v. (w : List ℕ) × Has ws w × Has (nodes_of n x w) v) chosen
 
-  choice : (ws : List (List ℕ)) → Each (IsWalk n x) ws → AreDisjoint n x ws → Choice ws
+  choice : (ws : List (List ℕ)) → Each (IsIndexWalk n x) ws → AreDisjoint n x ws → Choice ws
   choice [] walks disjoint = record { chosen = []; many = refl; apart = tt; among = tt; on_walks = tt }
   choice (w ∷ ws) walks disjoint =
       let rest : Choice ws = choice ws walks.1 disjoint.1 in

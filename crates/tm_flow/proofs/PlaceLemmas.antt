@@ -84,6 +84,11 @@ module _ {X : Type 0} where
   at_map f (x ∷ xs) zero y h = (x, refl, h)
   at_map f (x ∷ xs) (suc i) y h = at_map f xs i y h
 
+  pub at_image : {Y : Type 0} (f : X → Y) (xs : List X) (i : ℕ) (x : X) → At xs i x → At (map f xs) i (f x)
+  at_image f [] i x h = absurd h
+  at_image f (y ∷ ys) zero x h = ap f h
+  at_image f (y ∷ ys) (suc i) x h = at_image f ys i x h
+
   -- the item with an index replaced by taking it out and putting another in
   pub replaced : {Y : Type 0} (f : X → Y) (xs : List X) (i : ℕ) (x z : X) → At xs i x
       → (before after : List Y) × (map f xs ≡ before ++ f x ∷ after) × (map f (insert (remove xs i) i z) ≡ before ++ f z ∷ after)

@@ -4,7 +4,7 @@ use Rattle.std.proofs.lemmas.List.{take_more, append-nil, take_all, take-append-
 use Rattle.std.proofs.lemmas.Bool.{cases_lt}
 use Rattle.tm_flow.specs.Lists.{Has, Each, AreApart, At}
 use Rattle.tm_flow.specs.Nets.{Shape, Reaches}
-use Rattle.tm_flow.specs.Searches.{sides, sides_waiting, near, far, count_of, IsRead, IsBack, IsStep, Follows, IsGoal, IsWay, IsNumbered, IsMarked, Names, IsNew, Meets, IsExhausted}
+use Rattle.tm_flow.specs.Searches.{sides, sides_waiting, near, far, count_of, IsRead, IsBack, IsStep, Follows, IsGoal, IsWay, IsNumbered, IsMarked, IsUsed, Names, IsNew, Meets, IsExhausted}
 use Rattle.tm_flow.specs.declared.flow.Edge.{Edge}
 use Rattle.tm_flow.specs.declared.search.Marks.{Marks}
 use Rattle.tm_flow.specs.declared.search.Side.{Side}
@@ -13,7 +13,6 @@ use Rattle.tm_flow.specs.declared.search.Step.TheVariants.{Read, Cross, Return, 
 use Rattle.tm_flow.specs.declared.search.Taken.{Taken}
 use Rattle.tm_flow.specs.declared.search.Waiting.{Waiting}
 use Rattle.tm_flow.proofs.ListLemmas.{has_left, has_right, has_either, each_left, each_right, each_from, has_get, each_has, each_as, each_join, apart_push}
-use Rattle.tm_flow.proofs.MarkLemmas.{none_marked}
 use Rattle.tm_flow.proofs.PlaceLemmas.{at_left, at_either, at_has, at_after}
 use Rattle.tm_flow.proofs.Finite.{reaches_here, reaches_step}
 
@@ -50,6 +49,7 @@ module _ {T : Type 0} where
     each = tt;
     grown = λ p h. inl h;
     stays = λ p h. h;
+    used = λ u h. h;
     longer = λ i u h. h;
     named = λ u h. inl h;
     count = omega arith;
@@ -58,15 +58,17 @@ module _ {T : Type 0} where
   -- one side met, whose node has its number
   pub meets_one : (nodes : List T) (marks marks' : List Marks) (waiting waiting' : List (Waiting T)) (w : Waiting T) → IsNumbered nodes marks' → At nodes w.number w.side.node
       → IsMarked nodes marks' w.side → (IsMarked nodes marks w.side → ⊥) → ((p : Side T) → IsMarked nodes marks' p → IsMarked nodes marks p ⊎ (w.side ≡ p))
-      → ((p : Side T) → IsMarked nodes marks p → IsMarked nodes marks' p) → count_of marks' ≡ count_of marks + 1 → waiting' ≡ waiting ++ w ∷ []
+      → ((p : Side T) → IsMarked nodes marks p → IsMarked nodes marks' p) → ((u : T) → IsUsed nodes marks u → IsUsed nodes marks' u)
+      → count_of marks' ≡ count_of marks + 1 → waiting' ≡ waiting ++ w ∷ []
       → Meets (λ s t. (s ≡ w.side) × (t ≡ w.step)) w.depth nodes marks waiting nodes marks' waiting'
-  meets_one nodes marks marks' waiting waiting' w numbered number marked fresh grown stays count opened = record {
+  meets_one nodes marks marks' waiting waiting' w numbered number marked fresh grown stays used count opened = record {
     numbered = numbered;
     added = w ∷ [];
     opened = opened;
     each = (record { step = (refl, refl); depth = refl; number = number; marked = marked; fresh = fresh }, tt);
     grown = λ p h. elim (grown p h) [ inl old ↦ inl old | inr is ↦ inr (inl is) ];
     stays = stays;
+    used = used;
     longer = λ i u h. h;
     named = λ u h. inl h;
     count = count;
@@ -82,6 +84,7 @@ module _ {T : Type 0} where
         (λ w k. record { step = f w.side w.step k.step; depth = k.depth; number = k.number; marked = k.marked; fresh = k.fresh }) m.added m.each;
     grown = m.grown;
     stays = m.stays;
+    used = m.used;
     longer = m.longer;
     named = λ u h. elim (m.named u h) [ inl old ↦ inl old | inr new ↦ inr (new.0, new.1, f new.0 new.1 new.2, new.3) ];
     count = m.count;
@@ -108,6 +111,7 @@ module _ {T : Type 0} where
       | inr new ↦ inr (subst (λ l. Has l p) (sym (waiting_join a.added b.added)) (has_right (sides_waiting a.added) (sides_waiting b.added) p new))
     ];
     stays = λ p h. b.stays p (a.stays p h);
+    used = λ u h. b.used u (a.used u h);
     longer = λ i u h. b.longer i u (a.longer i u h);
     named = λ u h. elim (b.named u h) [ inl between ↦ a.named u between | inr new ↦ inr new ];
     count = b.count ∙ ap (λ k. k + length b.added) a.count ∙ omega (arith, length-append a.added b.added);
@@ -125,6 +129,7 @@ module _ {T : Type 0} where
         (λ w k. record { step = k.step; depth = k.depth; number = k.number; marked = k.marked; fresh = λ h. k.fresh (a.stays w.side h) }) b.added b.each;
     grown = λ p h. elim (b.grown p h) [ inl between ↦ inl (a.only p between) | inr new ↦ inr new ];
     stays = λ p h. b.stays p (a.stays p h);
+    used = λ u h. b.used u (a.used u h);
     longer = λ i u h. b.longer i u (a.longer i u h);
     named = λ u h. elim (b.named u h) [
       | inl between ↦ elim (a.named u between) [ inl old ↦ inl old | inr is ↦ inr (side, step, holds, is) ]
@@ -256,7 +261,7 @@ module _ {T : Type 0} where
       )
 
   abbrev pub taken : Waiting T → Taken T
-  taken w = record { side = w.side; step = w.step }
+  taken w = record { side = w.side; step = w.step; number = w.number }
 
   -- a way goes on by one step from its last side to a side that it has not come to
   way_on : (n : Shape T) (into : T → List (Edge T)) (root : T) (front : List (Taken T)) (w u : Taken T) → IsWay n into root (front ++ w ∷ [])
@@ -312,43 +317,46 @@ module _ {T : Type 0} where
     pub opens : Each (IsOpen n into root nodes marks ts) waiting
     pub stacked : AreStacked waiting
     pub on : Each (IsMarked nodes marks) (sides ts)
+    pub numbers : Each (λ t. At nodes t.number t.side.node) ts
 
-  pub searching_first : (n : Shape T) (into : T → List (Edge T)) (root : T) (nodes : List T) (marks : List Marks) (waiting : List (Waiting T)) (ts : List (Taken T)) (step : Step)
-      → Meets (λ s t. (s ≡ far root) × (t ≡ step)) 0 [] [] [] nodes marks waiting → IsMarked nodes marks (far root) → ts ≡ []
-      → IsSearching n into root nodes marks waiting ts
-  searching_first n into root nodes marks waiting ts step m start empty = record {
+  pub searching_first : (n : Shape T) (into : T → List (Edge T)) (root : T) (nodes nodes' : List T) (marks marks' : List Marks) (waiting : List (Waiting T)) (ts : List (Taken T)) (step : Step)
+      → ((p : Side T) → IsMarked nodes marks p → ⊥) → Each (Reaches n root) nodes
+      → Meets (λ s t. (s ≡ far root) × (t ≡ step)) 0 nodes marks [] nodes' marks' waiting → IsMarked nodes' marks' (far root) → ts ≡ []
+      → IsSearching n into root nodes' marks' waiting ts
+  searching_first n into root nodes nodes' marks marks' waiting ts step none reached m start empty = record {
     numbered = m.numbered;
     start = start;
-    reached = each_from (Reaches n root) nodes (λ v h. elim (m.named v h) [
-      | inl old ↦ absurd old
+    reached = each_from (Reaches n root) nodes' (λ v h. elim (m.named v h) [
+      | inl old ↦ each_has (Reaches n root) nodes reached v old
       | inr new ↦ subst (Reaches n root) (sym (ap (λ p. p.node) new.2.0) ∙ new.3) (reaches_here n root)
     ]);
     done = λ p h. elim (m.grown p h) [
-      | inl old ↦ absurd (none_marked p old)
+      | inl old ↦ absurd (none p old)
       | inr new ↦ inl (subst (λ l. Has (sides_waiting l) p) (sym m.opened) new)
     ];
-    opens = subst (Each (IsOpen n into root nodes marks ts)) (sym m.opened)
-        (each_as (IsNew (λ s t. (s ≡ far root) × (t ≡ step)) 0 [] [] nodes marks) (IsOpen n into root nodes marks ts) (λ w k.
-        let none : take w.depth ts ≡ [] = ap (λ d. take d ts) k.depth ∙ ap (λ l. take 0 l) empty in
+    opens = subst (Each (IsOpen n into root nodes' marks' ts)) (sym m.opened)
+        (each_as (IsNew (λ s t. (s ≡ far root) × (t ≡ step)) 0 nodes marks nodes' marks') (IsOpen n into root nodes' marks' ts) (λ w k.
+        let none_yet : take w.depth ts ≡ [] = ap (λ d. take d ts) k.depth ∙ ap (λ l. take 0 l) empty in
         let zeroth : w.depth ≡ 0 = k.depth in
         record {
-          way = subst (λ l. IsWay n into root (l ++ taken w ∷ [])) (sym none) (way_first n into root (taken w) k.step.0);
+          way = subst (λ l. IsWay n into root (l ++ taken w ∷ [])) (sym none_yet) (way_first n into root (taken w) k.step.0);
           within = omega arith;
           number = k.number;
           marked = k.marked;
         }) m.added m.each);
-    stacked = subst AreStacked (sym m.opened) (stacked_same 0 m.added (each_as (IsNew (λ s t. (s ≡ far root) × (t ≡ step)) 0 [] [] nodes marks) (λ u. u.depth ≡ 0) (λ w k. k.depth) m.added m.each));
-    on = subst (λ l. Each (IsMarked nodes marks) (sides l)) (sym empty) tt;
+    stacked = subst AreStacked (sym m.opened) (stacked_same 0 m.added (each_as (IsNew (λ s t. (s ≡ far root) × (t ≡ step)) 0 nodes marks nodes' marks') (λ u. u.depth ≡ 0) (λ w k. k.depth) m.added m.each));
+    on = subst (λ l. Each (IsMarked nodes' marks') (sides l)) (sym empty) tt;
+    numbers = subst (Each (λ t. At nodes' t.number t.side.node)) (sym empty) tt;
   }
 
-  -- the first side of a search is met where nothing has been
-  pub meets_begun : (root : T) (side : Side T) (step : Step) → side ≡ far root → {nodes nodes' : List T} {marks marks' : List Marks} {waiting waiting' : List (Waiting T)}
-      → nodes ≡ [] → marks ≡ [] → waiting ≡ [] → Meets (λ s t. (s ≡ side) × (t ≡ step)) 0 nodes marks waiting nodes' marks' waiting'
-      → Meets (λ s t. (s ≡ far root) × (t ≡ step)) 0 [] [] [] nodes' marks' waiting'
-  meets_begun root side step is {nodes} {nodes'} {marks} {marks'} {waiting} {waiting'} no_node no_mark no_one m =
+  -- the first side of a search is met where none has been
+  pub meets_begun : (root : T) (side : Side T) (step : Step) → side ≡ far root → {nodes nodes0 nodes' : List T} {marks marks0 marks' : List Marks} {waiting waiting' : List (Waiting T)}
+      → nodes ≡ nodes0 → marks ≡ marks0 → waiting ≡ [] → Meets (λ s t. (s ≡ side) × (t ≡ step)) 0 nodes marks waiting nodes' marks' waiting'
+      → Meets (λ s t. (s ≡ far root) × (t ≡ step)) 0 nodes0 marks0 [] nodes' marks' waiting'
+  meets_begun root side step is {nodes} {nodes0} {nodes'} {marks} {marks0} {marks'} {waiting} {waiting'} same_nodes same_marks no_one m =
       meets_as (λ s t e. (e.0 ∙ is, e.1))
-      (subst (λ l. Meets (λ s t. (s ≡ side) × (t ≡ step)) 0 l [] [] nodes' marks' waiting') no_node
-      (subst (λ l. Meets (λ s t. (s ≡ side) × (t ≡ step)) 0 nodes l [] nodes' marks' waiting') no_mark
+      (subst (λ l. Meets (λ s t. (s ≡ side) × (t ≡ step)) 0 l marks0 [] nodes' marks' waiting') same_nodes
+      (subst (λ l. Meets (λ s t. (s ≡ side) × (t ≡ step)) 0 nodes l [] nodes' marks' waiting') same_marks
       (subst (λ l. Meets (λ s t. (s ≡ side) × (t ≡ step)) 0 nodes marks l nodes' marks' waiting') no_one m)))
 
   -- what holds of the side that is taken up next
@@ -364,7 +372,7 @@ module _ {T : Type 0} where
   -- the way to the side that is taken up next
   pub next_way : {n : Shape T} {into : T → List (Edge T)} {root : T} {nodes : List T} {marks : List Marks} {before : List (Waiting T)} {ts : List (Taken T)}
       → IsSearching n into root nodes marks before ts → (waiting : List (Waiting T)) (w : Waiting T) → before ≡ waiting ++ w ∷ []
-      → (ts' : List (Taken T)) → ts' ≡ take w.depth ts ++ record { side = w.side; step = w.step } ∷ [] → IsWay n into root ts'
+      → (ts' : List (Taken T)) → ts' ≡ take w.depth ts ++ taken w ∷ [] → IsWay n into root ts'
   next_way {n} {into} {root} s waiting w popped ts' is = subst (IsWay n into root) (sym is) (next_open s waiting w popped).way
 
   pub last_side : (front ts' : List (Taken T)) (t : Taken T) → ts' ≡ front ++ t ∷ [] → At (sides ts') (length ts' - 1) t.side
@@ -375,11 +383,20 @@ module _ {T : Type 0} where
       (subst (λ l. At l (length front) t.side) (sym (sides_join front (t ∷ [])))
       (subst (λ k. At (sides front ++ t.side ∷ []) k t.side) (length-sides front) (at_after (sides front) [] t.side))))
 
+  -- and the numbers of the nodes of that way
+  pub next_numbers : {n : Shape T} {into : T → List (Edge T)} {root : T} {nodes : List T} {marks : List Marks} {before : List (Waiting T)} {ts : List (Taken T)}
+      → IsSearching n into root nodes marks before ts → (waiting : List (Waiting T)) (w : Waiting T) → before ≡ waiting ++ w ∷ []
+      → (ts' : List (Taken T)) → ts' ≡ take w.depth ts ++ taken w ∷ [] → Each (λ t. At nodes t.number t.side.node) ts'
+  next_numbers {n} {into} {root} {nodes} {marks} {before} {ts} s waiting w popped ts' is =
+      let P : Taken T → Type 0 = λ t. At nodes t.number t.side.node in
+      subst (Each P) (sym is) (each_join P (take w.depth ts) (taken w ∷ [])
+      (each_left P (take w.depth ts) (drop w.depth ts) (subst (Each P) (sym (take-append-drop w.depth ts)) s.numbers)) (next_number s waiting w popped, tt))
+
   -- one turn: a side is taken up, the way leads to it, and each side within a step of it is met
   module _ (n : Shape T) (into : T → List (Edge T)) (root : T) (nodes : List T) (marks : List Marks) (before waiting : List (Waiting T)) (ts : List (Taken T)) (w : Waiting T)
       (known : (v : T) → Each (λ e. Reaches n root e.from) (into v)) (s : IsSearching n into root nodes marks before ts) (popped : before ≡ waiting ++ w ∷ [])
       (no_goal : IsGoal n w.side → ⊥) (nodes' : List T) (marks' : List Marks) (waiting' : List (Waiting T)) (ts' : List (Taken T)) (depth : ℕ)
-      (is : ts' ≡ take w.depth ts ++ record { side = w.side; step = w.step } ∷ []) (deep : depth ≡ length ts')
+      (is : ts' ≡ take w.depth ts ++ taken w ∷ []) (deep : depth ≡ length ts')
       (m : Meets (λ q t. IsStep n (into w.side.node) w.side t q) depth nodes marks waiting nodes' marks' waiting')
       (follows : Follows n (into w.side.node) (IsMarked nodes' marks') w.side) where
     this : IsOpen n into root nodes marks ts w
@@ -410,6 +427,9 @@ module _ {T : Type 0} where
       where
         drop_rest : ℕ → List (Taken T)
         drop_rest d = drop d ts
+
+    numbers_on : Each (λ t. At nodes t.number t.side.node) ts'
+    numbers_on = next_numbers s waiting w popped ts' is
 
     old_open : (u : Waiting T) → u.depth ≤ w.depth → IsOpen n into root nodes marks ts u → IsOpen n into root nodes' marks' ts' u
     old_open u le o = record {
@@ -465,6 +485,7 @@ module _ {T : Type 0} where
           (each_as (λ u. u.depth ≤ w.depth) (λ u. u.depth ≤ depth) (λ u le. omega (arith, one_deeper)) waiting below.1)
           (each_as (IsNew (λ q t. IsStep n (into w.side.node) w.side t q) depth nodes marks nodes' marks') (λ u. u.depth ≡ depth) (λ u k. k.depth) m.added m.each));
       on = each_as (IsMarked nodes marks) (IsMarked nodes' marks') m.stays (sides ts') on_way;
+      numbers = each_as (λ t. At nodes t.number t.side.node) (λ t. At nodes' t.number t.side.node) (λ t k. m.longer t.number t.side.node k) ts' numbers_on;
     }
 
   pub exhausted : (n : Shape T) (into : T → List (Edge T)) (root : T) (nodes : List T) (marks : List Marks) (waiting : List (Waiting T)) (ts : List (Taken T))

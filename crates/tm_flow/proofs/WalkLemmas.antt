@@ -3,12 +3,12 @@ use Rattle.std.proofs.Common.{◌≡◌, ℕ, ◌+◌, ◌<◌, ◌≤◌, Bool,
 use Rattle.std.proofs.lemmas.Bool.{cases_lt}
 use Rattle.std.proofs.lemmas.List.{length-map}
 use Rattle.tm_flow.specs.Lists.{Has, Each, At}
-use Rattle.tm_flow.specs.Nets.{Shape, IsPath, IsWalk, nodes_of, node_after, Reaches}
+use Rattle.tm_flow.specs.Nets.{Shape, IsPath, IsIndexWalk, nodes_of, node_after, Reaches}
 use Rattle.tm_flow.specs.Cuts.{AreDisjoint, AreFlow, IsFree, IsBarrier}
 use Rattle.tm_flow.specs.Flows.{Leads, hits, all_hits, edges_along, indices_of, edges_to, all_edges_to, IsFlow}
 use Rattle.tm_flow.specs.declared.flow.Edge.{Edge}
 use Rattle.tm_flow.proofs.ListLemmas.{each_from, each_join}
-use Rattle.tm_flow.proofs.PlaceLemmas.{drop_more, each_at, all_has}
+use Rattle.tm_flow.proofs.PlaceLemmas.{drop_more, each_at, each_image, all_has}
 
 one_if : (b : Bool) → b ≡ true → cond {A = ℕ} b 1 0 ≡ 1
 one_if b e = ap (λ c. cond {A = ℕ} c 1 0) e
@@ -18,8 +18,8 @@ zero_if b e = ap (λ c. cond {A = ℕ} c 1 0) e
 
 module _ {T : Type 0} (n : Shape T) where
   -- the next index of a walk
-  pub walk_next : (x : T) (is : List ℕ) (at i : ℕ) → at < length is → i ≡ get_or is at 0 → IsWalk n x (drop at is) → (i < n.reads x) × IsWalk n (n.read x i) (drop (at + 1) is)
-  walk_next x is at i lt e w = let r : IsWalk n x (i ∷ drop (at + 1) is) = subst (IsWalk n x) (drop_more is at 0 i lt e) w in (r.0, r.1)
+  pub walk_next : (x : T) (is : List ℕ) (at i : ℕ) → at < length is → i ≡ get_or is at 0 → IsIndexWalk n x (drop at is) → (i < n.reads x) × IsIndexWalk n (n.read x i) (drop (at + 1) is)
+  walk_next x is at i lt e w = let r : IsIndexWalk n x (i ∷ drop (at + 1) is) = subst (IsIndexWalk n x) (drop_more is at 0 i lt e) w in (r.0, r.1)
 
   pub edges_next : (x y : T) (is : List ℕ) (at i : ℕ) (made made_new all : List (Edge T)) → at < length is → i ≡ get_or is at 0 → y ≡ n.read x i
       → made ++ edges_along n x (drop at is) ≡ all → made_new ≡ made ++ record { from = x; index = i; to = y } ∷ []
@@ -30,19 +30,25 @@ module _ {T : Type 0} (n : Shape T) where
       ∙ ap (λ z. made ++ edge z ∷ edges_along n z (drop (at + 1) is)) to
       ∙ ap (λ l. made ++ l) (sym (ap (edges_along n x) (drop_more is at 0 i lt e))) ∙ before
 
-  leads_along : (x : T) (is : List ℕ) → IsWalk n x is → Leads n x (edges_along n x is)
+  pub leads_along : (x : T) (is : List ℕ) → IsIndexWalk n x is → Leads n x (edges_along n x is)
   leads_along x [] w = w
   leads_along x (i ∷ is) w = (refl, w.0, refl, leads_along (n.read x i) is w.1)
 
-  walk_of : (x : T) (w : List (Edge T)) → Leads n x w → IsWalk n x (indices_of w)
-  walk_of x [] l = l
-  walk_of x (e ∷ w) l = (l.1, subst (λ y. IsWalk n y (indices_of w)) l.2 (walk_of e.to w l.3))
+  -- a known walk leads from its root
+  pub known_leads : {W : Type 0} (f : W → List ℕ) (root : T) (lists : List W) (i : ℕ) (list : W) (slice : List ℕ) (walk : List (Edge T))
+      → i < length lists → list ≡ get_or lists i list → slice ≡ f list → walk ≡ edges_along n root slice → Each (IsIndexWalk n root) (map f lists) → Leads n root walk
+  known_leads f root lists i list slice walk lt is image made all =
+      subst (Leads n root) (sym made) (leads_along root slice (each_image f (IsIndexWalk n root) lists i list slice lt is image all))
 
-  pub each_along : (x : T) (ls : List (List ℕ)) → Each (IsWalk n x) ls → Each (Leads n x) (map (edges_along n x) ls)
+  pub walk_of : (x : T) (w : List (Edge T)) → Leads n x w → IsIndexWalk n x (indices_of w)
+  walk_of x [] l = l
+  walk_of x (e ∷ w) l = (l.1, subst (λ y. IsIndexWalk n y (indices_of w)) l.2 (walk_of e.to w l.3))
+
+  pub each_along : (x : T) (ls : List (List ℕ)) → Each (IsIndexWalk n x) ls → Each (Leads n x) (map (edges_along n x) ls)
   each_along x [] a = tt
   each_along x (l ∷ ls) a = (leads_along x l a.0, each_along x ls a.1)
 
-  each_walk_of : (x : T) (ws : List (List (Edge T))) → Each (Leads n x) ws → Each (IsWalk n x) (map indices_of ws)
+  each_walk_of : (x : T) (ws : List (List (Edge T))) → Each (Leads n x) ws → Each (IsIndexWalk n x) (map indices_of ws)
   each_walk_of x [] a = tt
   each_walk_of x (w ∷ ws) a = (walk_of x w a.0, each_walk_of x ws a.1)
 
@@ -54,6 +60,12 @@ module _ {T : Type 0} (n : Shape T) where
   leads_reaches [] x e l h = absurd h
   leads_reaches (d ∷ w) x e l (inl g) = ([], tt, sym l.0 ∙ ap (λ u. u.from) g)
   leads_reaches (d ∷ w) x e l (inr g) = reaches_from x d.to d.index e.from l.1 l.2 (leads_reaches w d.to e l.3 g)
+
+  -- and those that they come to
+  pub leads_to_reached : (w : List (Edge T)) (x : T) (e : Edge T) → Leads n x w → Has w e → Reaches n x e.to
+  leads_to_reached [] x e l h = absurd h
+  leads_to_reached (d ∷ w) x e l (inl g) = (d.index ∷ [], (l.1, tt), sym l.2 ∙ ap (λ u. u.to) g)
+  leads_to_reached (d ∷ w) x e l (inr g) = reaches_from x d.to d.index e.to l.1 l.2 (leads_to_reached w d.to e l.3 g)
 
   module _ (eq : T → T → Bool) where
     has_edges_to : (v : T) (w : List (Edge T)) (e : Edge T) → Has (edges_to eq v w) e → Has w e
@@ -137,7 +149,7 @@ module _ {T : Type 0} (n : Shape T) where
             by false g rest = let z = zero_if (eq e.to v) g in omega arith
 
         -- and at most once to each node
-        hits_once : (x : T) (w : List (Edge T)) (v : T) → Leads n x w → hits eq v w ≤ 1
+        pub hits_once : (x : T) (w : List (Edge T)) (v : T) → Leads n x w → hits eq v w ≤ 1
         hits_once x [] v l = omega arith
         hits_once x (e ∷ w) v l = by (eq e.to v) refl (hits_once e.to w v l.3)
           where
@@ -149,7 +161,7 @@ module _ {T : Type 0} (n : Shape T) where
                 omega arith
             by false g once = let z = zero_if (eq e.to v) g in omega arith
 
-        room_along : (x : T) (ls : List (List ℕ)) → Each (IsWalk n x) ls → AreDisjoint n x ls → (v : T) → n.may_cut v ≡ true → all_hits eq v (map (edges_along n x) ls) ≤ 1
+        room_along : (x : T) (ls : List (List ℕ)) → Each (IsIndexWalk n x) ls → AreDisjoint n x ls → (v : T) → n.may_cut v ≡ true → all_hits eq v (map (edges_along n x) ls) ≤ 1
         room_along x [] a d v may = omega arith
         room_along x (l ∷ ls) a d v may =
             let once : hits eq v (edges_along n x l) ≤ 1 = hits_once x (edges_along n x l) v (leads_along x l a.0) in

@@ -1,6 +1,5 @@
 -- Flows as lists of walks, and walks as lists of edges.
-use Rattle.std.specs.Prelude.{◌≡◌, ℕ, ◌+◌, ◌<◌, ◌≤◌, ◌⊎◌, Bool, true, cond, List, [], ◌∷◌, ◌++◌, map, Option, Some, None, Vec}
-use Rattle.indexmap.specs.IndexMap.{IndexMap, get}
+use Rattle.std.specs.Prelude.{◌≡◌, ℕ, ◌+◌, ◌<◌, ◌≤◌, ◌⊎◌, Bool, true, cond, List, [], ◌∷◌, ◌++◌, map}
 use Rattle.tm_flow.specs.Lists.{Has, Each, At}
 use Rattle.tm_flow.specs.Nets.{Shape}
 use Rattle.tm_flow.specs.declared.flow.Edge.{Edge}
@@ -69,11 +68,3 @@ module _ {T : Type 0} where
   -- the edge goes out of the walks and the walk in hand: it is the first edge in hand, or it stands on a walk
   abbrev pub TakesBack : Edge T → List (List (Edge T)) → List (Edge T) → List (List (Edge T)) → List (Edge T) → Type 0
   TakesBack e ws t ws' t' = ((t ≡ e ∷ t') × (ws' ≡ ws)) ⊎ Exchanges e ws t ws' t'
-
--- the edges that a map has at a node
-abbrev pub edges_or_none : {T A : Type 0} → Option (Vec (Edge T) A) → List (Edge T)
-edges_or_none None = []
-edges_or_none (Some edges) = edges.items
-
-abbrev pub edges_in : {T A S : Type 0} → (T → T → Bool) → IndexMap T (Vec (Edge T) A) S → T → List (Edge T)
-edges_in eq arrivals v = edges_or_none (get eq arrivals v)

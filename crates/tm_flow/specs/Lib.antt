@@ -1,7 +1,11 @@
 pub mod Lists
 pub mod Nets
 pub mod Cuts
+pub mod Barriers
+pub mod Judges
+pub mod Ladders
 pub mod Founds
 pub mod Flows
 pub mod Searches
+pub mod Starts
 pub mod TestNets

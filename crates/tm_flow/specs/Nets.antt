@@ -16,9 +16,9 @@ IsPath n x [] = Unit {0}
 IsPath n x (i ∷ is) = (i < n.reads x) × IsPath n (n.read x i) is
 
 -- the indices lead from x to an end
-abbrev pub IsWalk : {T : Type 0} → Shape T → T → List ℕ → Type 0
-IsWalk n x [] = n.is_end x ≡ true
-IsWalk n x (i ∷ is) = (i < n.reads x) × IsWalk n (n.read x i) is
+abbrev pub IsIndexWalk : {T : Type 0} → Shape T → T → List ℕ → Type 0
+IsIndexWalk n x [] = n.is_end x ≡ true
+IsIndexWalk n x (i ∷ is) = (i < n.reads x) × IsIndexWalk n (n.read x i) is
 
 -- the nodes that the indices lead to from x, without x itself
 abbrev pub nodes_of : {T : Type 0} → Shape T → T → List ℕ → List T

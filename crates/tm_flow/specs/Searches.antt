@@ -2,7 +2,7 @@
 use Rattle.std.specs.Prelude.{◌≡◌, ℕ, ◌+◌, ◌-◌, ◌<◌, ◌⊎◌, Bool, true, false, cond, List, [], ◌∷◌, ◌++◌, length, Option, Some, None, option_to_list, position, slice_index_or}
 use Rattle.std.specs.List.{sum_by}
 use Rattle.tm_flow.specs.Lists.{Has, Each, AreApart, At}
-use Rattle.tm_flow.specs.Nets.{Shape}
+use Rattle.tm_flow.specs.Nets.{Shape, Reaches}
 use Rattle.tm_flow.specs.Flows.{InFlow, BeginsWith, TakesBack, IsFlow, all_edges_to}
 use Rattle.tm_flow.specs.declared.flow.Edge.{Edge}
 use Rattle.tm_flow.specs.declared.search.Marks.{Marks}
@@ -22,17 +22,25 @@ mark_of m false = m.near
 
 -- the marks with that of one side set
 abbrev pub with_mark : Marks → Bool → Marks
-with_mark m true = record { near = m.near; far = true }
-with_mark m false = record { near = true; far = m.far }
+with_mark m true = record { near = m.near; far = true; used = m.used }
+with_mark m false = record { near = true; far = m.far; used = m.used }
 
 abbrev pub no_marks : Marks
-no_marks = record { near = false; far = false }
+no_marks = record { near = false; far = false; used = false }
 
--- how many marks of a node are set
+-- the marks with neither side met
+abbrev pub unmet : Marks → Marks
+unmet m = record { near = false; far = false; used = m.used }
+
+-- the marks of a node that a walk comes to
+abbrev pub with_use : Marks → Marks
+with_use m = record { near = m.near; far = m.far; used = true }
+
+-- how many sides of a node have been met
 abbrev pub marks_in : Marks → ℕ
 marks_in m = cond m.near 1 0 + cond m.far 1 0
 
--- how many marks are set
+-- how many sides have been met
 abbrev pub count_of : List Marks → ℕ
 count_of ms = sum_by marks_in ms
 
@@ -103,6 +111,24 @@ module _ {T : Type 0} where
   abbrev pub IsMarked : List T → List Marks → Side T → Type 0
   IsMarked nodes marks p = (i : ℕ) × (m : Marks) × At nodes i p.node × At marks i m × (mark_of m p.is_far ≡ true)
 
+  -- the node has a number, and is marked as one that walks may come to
+  abbrev pub IsUsed : List T → List Marks → T → Type 0
+  IsUsed nodes marks v = (i : ℕ) × (m : Marks) × At nodes i v × At marks i m × (m.used ≡ true)
+
+  -- what is known when a search of the root begins: the nodes that have numbers are reached from the root, and those of
+  -- the walks are among them and marked
+  pub record IsKnown (n : Shape T) (root : T) (ws : List (List (Edge T))) (nodes : List T) (marks : List Marks) : Type 0 where
+    pub numbered : IsNumbered nodes marks
+    pub reached : Each (Reaches n root) nodes
+    pub used : (e : Edge T) → InFlow ws e → IsUsed nodes marks e.to
+
+  -- the nodes with the property are used now, and have numbers
+  pub record Uses (P : T → Type 0) (nodes : List T) (marks : List Marks) (nodes' : List T) (marks' : List Marks) : Type 0 where
+    pub numbered : IsNumbered nodes' marks'
+    pub named : (u : T) → Has nodes' u → Has nodes u ⊎ P u
+    pub stays : (u : T) → IsUsed nodes marks u → IsUsed nodes' marks' u
+    pub used : (u : T) → P u → IsUsed nodes' marks' u
+
   -- v has the number, the one that it had or the next one, and no mark has changed
   pub record Names (v : T) (number : ℕ) (nodes : List T) (marks : List Marks) (nodes' : List T) (marks' : List Marks) : Type 0 where
     pub numbered : IsNumbered nodes' marks'
@@ -111,6 +137,7 @@ module _ {T : Type 0} where
     pub named : (u : T) → Has nodes' u → Has nodes u ⊎ (v ≡ u)
     pub stays : (p : Side T) → IsMarked nodes marks p → IsMarked nodes' marks' p
     pub only : (p : Side T) → IsMarked nodes' marks' p → IsMarked nodes marks p
+    pub used : (u : T) → IsUsed nodes marks u → IsUsed nodes' marks' u
     pub count : count_of marks' ≡ count_of marks
 
   -- a side that waits: it was met by such a step from the side at that depth of the way, and not before
@@ -130,6 +157,7 @@ module _ {T : Type 0} where
     pub each : Each (IsNew P depth nodes marks nodes' marks') added
     pub grown : (p : Side T) → IsMarked nodes' marks' p → IsMarked nodes marks p ⊎ Has (sides_waiting added) p
     pub stays : (p : Side T) → IsMarked nodes marks p → IsMarked nodes' marks' p
+    pub used : (u : T) → IsUsed nodes marks u → IsUsed nodes' marks' u
     pub longer : (i : ℕ) (u : T) → At nodes i u → At nodes' i u
     pub named : (u : T) → Has nodes' u → Has nodes u ⊎ ((s : Side T) × (step : Step) × P s step × (s.node ≡ u))
     pub count : count_of marks' ≡ count_of marks + length added
@@ -150,9 +178,9 @@ module _ {T : Type 0} where
     pub out : IsSearchedOut n into (IsMarked nodes marks)
 
   -- a way to the far side of an end, or all that can be met and no end among it
-  abbrev pub IsOutcome : Shape T → (T → List (Edge T)) → T → Searched T → Type 0
-  IsOutcome n into root (Walk way) = IsWay n into root way.items × EndsAt n way.items
-  IsOutcome n into root (Nowhere met) = IsExhausted n into root met.nodes.keys met.marks.items
+  abbrev pub IsOutcome : Shape T → (T → List (Edge T)) → T → List T → List Marks → List (Taken T) → Searched → Type 0
+  IsOutcome n into root nodes marks way Walk = IsWay n into root way × EndsAt n way
+  IsOutcome n into root nodes marks way Nowhere = IsExhausted n into root nodes marks
 
   -- the step from p to q can be undone where the edge that it went back over is the first one in hand, or on a walk
   abbrev pub CanUndo : Side T → Step → Side T → List (List (Edge T)) → List (Edge T) → Type 0

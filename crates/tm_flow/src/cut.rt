@@ -1,18 +1,21 @@
 // The searches of one root: as long as one more walk is found the flow grows, and where none is left it is cut.
 
 ghost use Rattle.std.specs.Prelude.{◌≡◌, ◌↔◌, ℕ, ◌+◌, ◌<◌, ◌≤◌, ◌++◌, ◌∷◌, [], List, false, length, map, option_to_list, All, IsTrue, IfOk, OnOk, IfSome, MatchOption};
-ghost use Rattle.tm_flow.specs.Cuts.{AreFlow, IsBarrier, IsCut};
-ghost use Rattle.tm_flow.specs.Flows.{IsFlow, edges_along, indices_of};
+ghost use Rattle.tm_flow.specs.Cuts.{IsBarrier, IsCut};
+ghost use Rattle.tm_flow.specs.Flows.{IsFlow, indices_of};
 ghost use Rattle.tm_flow.specs.Lists.{At, Each, lists_in};
-ghost use Rattle.tm_flow.specs.Nets.{IsWalk};
-ghost use Rattle.tm_flow.specs.Searches.{IsNumbered, is_far_met, first_unmet, all_first_unmet};
+ghost use Rattle.tm_flow.specs.Nets.{IsIndexWalk};
+ghost use Rattle.tm_flow.specs.Searches.{IsKnown, IsNumbered, is_far_met, first_unmet, all_first_unmet};
+ghost use Rattle.tm_flow.specs.Starts.{IsBegun};
 ghost use Rattle.tm_flow.specs.declared.flow.Edge.{Edge};
 ghost use Rattle.tm_flow.specs.Founds.{IsAnswer};
 
-use crate::flow::{Edge, arrivals_of};
+use crate::flow::Edge;
 use crate::grow::augment;
+use crate::known::{Start, known_walks};
 use crate::net::{Found, LazyNet};
-use crate::search::{Met, Searched, find_walk, is_far_met};
+use crate::search::{Memory, Met, Searched, find_walk, is_far_met};
+use crate::used::use_way;
 use std::alloc::Global;
 use tm_bits::NoMemory;
 
@@ -33,7 +36,8 @@ pub fn cut_or_walks<N: LazyNet>(
 }
 
 /// `cut_or_walks` that starts from walks which are known already, such as those of an earlier search
-/// of the same root, and spares the searches for these.
+/// of the same root, and spares the searches for these. A walk that shares a node that may be cut with
+/// one before it is left out.
 pub fn cut_or_walks_from<N: LazyNet>(
     alloc: Global,
     net: &N,
@@ -43,61 +47,56 @@ pub fn cut_or_walks_from<N: LazyNet>(
 ) -> Result<Found<N::Node>, NoMemory>
     requires few { k ≤ 8 }
     requires no_end { (N.shape net.now).is_end root ≡ false }
-    requires not_too_many { length known.now ≤ k + 1 }
-    requires flow { AreFlow (N.shape net.now) root (map (λ w. w.items) known.now) }
+    requires known { Each (IsIndexWalk (N.shape net.now) root) (lists_in known.now) }
     ensures { IfOk result (IsAnswer (N.shape net.now) root k) }
 {
-    let mut walks = flow_of(alloc, net, root, known)?;
+    let mut memory = Memory::new(alloc);
+    answer(alloc, net, &mut memory, root, k, known)
+}
+
+/// The answer, by searches in this memory, whatever it holds.
+pub fn answer<N: LazyNet>(
+    alloc: Global,
+    net: &N,
+    memory: &mut Memory<N::Node>,
+    root: N::Node,
+    k: u32,
+    known: &[Vec<u32>],
+) -> Result<Found<N::Node>, NoMemory>
+    requires few { k ≤ 8 }
+    requires known { Each (IsIndexWalk (N.shape net.now) root) (lists_in known.now) }
+    ensures { IfOk result (IsAnswer (N.shape net.now) root k) }
+{
+    match known_walks(alloc, net, &mut memory.search.met, root, k, known)? {
+        Start::Free(walk) => Ok(Found::Walks(only::<N>(alloc, walk.as_slice())?)),
+        Start::Flow(walks) => grow_on(alloc, net, memory, root, k, walks),
+    }
+}
+
+/// Grows the flow until it is cut, or refutes every cut.
+fn grow_on<N: LazyNet>(
+    alloc: Global,
+    net: &N,
+    memory: &mut Memory<N::Node>,
+    root: N::Node,
+    k: u32,
+    known: Vec<Vec<Edge<N::Node>>>,
+) -> Result<Found<N::Node>, NoMemory>
+    requires few { k ≤ 8 }
+    requires begun { IsBegun (N.shape net.now) N.Node.eq root k memory.old.search.met.nodes.keys
+        memory.old.search.met.marks.items (lists_in known.items) }
+    ensures { IfOk result (IsAnswer (N.shape net.now) root k) }
+{
+    let mut walks = known;
     for _round in walks.len()..k as usize + 1 {
         if let Some(free) = free_walk(net, walks.as_slice()) {
             return Ok(Found::Walks(only::<N>(alloc, walks[free].as_slice())?));
         }
-        if let Some(nodes) = grow(alloc, net, root, &mut walks)? {
+        if let Some(nodes) = grow(alloc, net, memory, root, &mut walks)? {
             return Ok(Found::Cut(nodes));
         }
     }
     Ok(Found::Walks(barrier(alloc, net, walks.as_slice())?))
-}
-
-/// The walks from the root that these lists of indices lead along.
-fn flow_of<N: LazyNet>(
-    alloc: Global,
-    net: &N,
-    root: N::Node,
-    lists: &[Vec<u32>],
-) -> Result<Vec<Vec<Edge<N::Node>>>, NoMemory>
-    requires { Each (IsWalk (N.shape net.now) root) (lists_in lists.now) }
-    ensures { IfOk result (λ walks. lists_in walks.items ≡ map (edges_along
-        (N.shape net.now) root) (lists_in lists.now)) }
-{
-    let mut walks = Vec::with_capacity(alloc, lists.len())?;
-    for list in lists {
-        walks.push(edges_of(alloc, net, root, list.as_slice())?)?;
-    }
-    Ok(walks)
-}
-
-fn edges_of<N: LazyNet>(
-    alloc: Global,
-    net: &N,
-    root: N::Node,
-    indices: &[u32],
-) -> Result<Vec<Edge<N::Node>>, NoMemory>
-    requires { IsWalk (N.shape net.now) root indices.now }
-    ensures { IfOk result (λ edges. edges.items ≡ edges_along (N.shape net.now) root indices.now) }
-{
-    let mut edges = Vec::with_capacity(alloc, indices.len())?;
-    let mut node = root;
-    for index in indices {
-        let to = net.read(node, *index);
-        edges.push(Edge {
-            from: node,
-            index: *index,
-            to,
-        })?;
-        node = to;
-    }
-    Ok(edges)
 }
 
 /// The walks of a flow, each as the indices that lead along it.
@@ -136,7 +135,7 @@ fn free_walk<N: LazyNet>(net: &N, walks: &[Vec<Edge<N::Node>>]) -> Option<usize>
     None
 }
 
-fn is_free<N: LazyNet>(net: &N, walk: &[Edge<N::Node>]) -> bool
+pub fn is_free<N: LazyNet>(net: &N, walk: &[Edge<N::Node>]) -> bool
     ensures { IsTrue result ↔ All (λ e. (N.shape net.now).may_cut e.to ≡ false) walk.now }
 {
     walk.iter().all(|edge| !net.may_cut(edge.to))
@@ -170,21 +169,29 @@ fn only<N: LazyNet>(alloc: Global, walk: &[Edge<N::Node>]) -> Result<Vec<Vec<u32
 fn grow<N: LazyNet>(
     alloc: Global,
     net: &N,
+    memory: &mut Memory<N::Node>,
     root: N::Node,
     walks: &mut Vec<Vec<Edge<N::Node>>>,
 ) -> Result<Option<Vec<N::Node>>, NoMemory>
-    requires { IsFlow (N.shape net.now) N.Node.eq root (lists_in walks.old.items) }
+    requires flow { IsFlow (N.shape net.now) N.Node.eq root (lists_in walks.old.items) }
+    requires known { IsKnown (N.shape net.now) root (lists_in walks.old.items)
+        memory.old.search.met.nodes.keys memory.old.search.met.marks.items }
     ensures { IfOk result (λ found. MatchOption found (IsFlow (N.shape net.now) N.Node.eq root
-        (lists_in walks.new.items) × (length walks.new.items ≡ length walks.old.items + 1))
+        (lists_in walks.new.items) × (length walks.new.items ≡ length walks.old.items + 1)
+        × IsKnown (N.shape net.now) root (lists_in walks.new.items)
+        memory.new.search.met.nodes.keys memory.new.search.met.marks.items)
         (λ nodes. IsCut (N.shape net.now) root (length walks.old.items) nodes.items)) }
 {
-    let arrivals = arrivals_of::<N>(alloc, walks.as_slice())?;
-    match find_walk(alloc, net, &arrivals, root)? {
-        Searched::Walk(way) => {
-            augment(alloc, net, walks, way.as_slice())?;
+    match find_walk(net, walks.as_slice(), memory, root)? {
+        Searched::Walk => {
+            augment(alloc, net, walks, memory.way.as_slice())?;
+            use_way::<N>(&mut memory.search.met, memory.way.as_slice());
             Ok(None)
         }
-        Searched::Nowhere(met) => Ok(Some(cut_of::<N>(alloc, walks.as_slice(), &met)?)),
+        Searched::Nowhere => {
+            let met = &memory.search.met;
+            Ok(Some(cut_of::<N>(alloc, walks.as_slice(), met)?))
+        }
     }
 }
 

@@ -1,12 +1,11 @@
 // The flow of a root: walks to ends that share no node that may be cut, kept as lists of edges.
-// Ranks fall along a walk, so that the place of an edge is found by halving.
+// Ranks fall along a walk, so that the place of an edge, or of the edge to a node, is found by halving.
 
-ghost use Rattle.std.specs.Prelude.{◌≡◌, ◌↔◌, ◌+◌, ◌<◌, ◌⊎◌, ◌++◌, [], ◌∷◌, length, take, drop, reverse, map, IsTrue, IfSome, IfNone, IfOk, OnOk};
-ghost use Rattle.tm_flow.specs.Flows.{AreWalks, Leads, InFlow, IsOnWalk, BeginsWith, TakesBack, Exchanges, edges_in, edges_to, all_edges_to};
+ghost use Rattle.std.specs.Prelude.{◌≡◌, false, ◌↔◌, ◌+◌, ◌<◌, ◌⊎◌, ◌++◌, [], ◌∷◌, length, take, drop, reverse, map, IsTrue, IfSome, IfNone, IfOk, OnOk};
+ghost use Rattle.tm_flow.specs.Flows.{AreWalks, Leads, InFlow, IsOnWalk, BeginsWith, TakesBack, Exchanges, edges_to, all_edges_to};
 ghost use Rattle.tm_flow.specs.Lists.{Has, At, lists_in};
 
 use crate::net::LazyNet;
-use indexmap::IndexMap;
 use std::alloc::Global;
 use tm_bits::NoMemory;
 
@@ -18,65 +17,76 @@ pub struct Edge<T> {
     pub to: T,
 }
 
-/// The edges of the flow by the node that they come to.
-pub type Arrivals<T> = IndexMap<T, Vec<Edge<T>>>;
-
-/// The edges that come to each node of the walks.
-pub fn arrivals_of<N: LazyNet>(
-    alloc: Global,
+/// The edges of the walks that come to the node, of which there are none where it is not used.
+pub fn edges_into<N: LazyNet>(
+    net: &N,
     walks: &[Vec<Edge<N::Node>>],
-) -> Result<Arrivals<N::Node>, NoMemory>
-    ensures { IfOk result (λ m. (v : N.Node)
-        → edges_in N.Node.eq m v ≡ all_edges_to N.Node.eq v (lists_in walks.now)) }
+    is_used: bool,
+    node: N::Node,
+    edges: &mut Vec<Edge<N::Node>>,
+) -> Result<(), NoMemory>
+    requires walks { AreWalks (N.shape net.now) (lists_in walks.now) }
+    requires unused { is_used ≡ false → all_edges_to N.Node.eq node (lists_in walks.now) ≡ [] }
+    ensures { OnOk result (edges.new.items ≡ all_edges_to N.Node.eq node (lists_in walks.now)) }
 {
-    let mut arrivals = IndexMap::new(alloc);
+    edges.clear();
+    if is_used {
+        push_edges(net, walks, node, edges)?;
+    }
+    Ok(())
+}
+
+fn push_edges<N: LazyNet>(
+    net: &N,
+    walks: &[Vec<Edge<N::Node>>],
+    node: N::Node,
+    edges: &mut Vec<Edge<N::Node>>,
+) -> Result<(), NoMemory>
+    requires { AreWalks (N.shape net.now) (lists_in walks.now) }
+    ensures { OnOk result (edges.new.items ≡ edges.old.items
+        ++ all_edges_to N.Node.eq node (lists_in walks.now)) }
+{
     for walk in walks {
-        add_walk::<N>(alloc, &mut arrivals, walk.as_slice())?;
+        push_edge(net, walk.as_slice(), node, edges)?;
     }
-    Ok(arrivals)
+    Ok(())
 }
 
-fn add_walk<N: LazyNet>(
-    alloc: Global,
-    arrivals: &mut Arrivals<N::Node>,
+/// At most one edge of a walk comes to a node.
+fn push_edge<N: LazyNet>(
+    net: &N,
     walk: &[Edge<N::Node>],
+    node: N::Node,
+    edges: &mut Vec<Edge<N::Node>>,
 ) -> Result<(), NoMemory>
-    ensures { OnOk result ((v : N.Node)
-        → edges_in N.Node.eq arrivals.new v
-        ≡ edges_in N.Node.eq arrivals.old v ++ edges_to N.Node.eq v walk.now) }
+    requires { (x : N.Node) × Leads (N.shape net.now) x walk.now }
+    ensures { OnOk result (edges.new.items ≡ edges.old.items ++ edges_to N.Node.eq node walk.now) }
 {
-    for edge in walk {
-        add_edge::<N>(alloc, arrivals, *edge)?;
+    if let Some(place) = place_to(net, walk, node) {
+        edges.push(walk[place])?;
     }
     Ok(())
 }
 
-fn add_edge<N: LazyNet>(
-    alloc: Global,
-    arrivals: &mut Arrivals<N::Node>,
-    edge: Edge<N::Node>,
-) -> Result<(), NoMemory>
-    ensures { OnOk result ((v : N.Node)
-        → edges_in N.Node.eq arrivals.new v
-        ≡ edges_in N.Node.eq arrivals.old v ++ edges_to N.Node.eq v (edge ∷ [])) }
+/// Where the edge stands on the walk that comes to the node.
+pub fn place_to<N: LazyNet>(net: &N, walk: &[Edge<N::Node>], node: N::Node) -> Option<usize>
+    requires { (x : N.Node) × Leads (N.shape net.now) x walk.now }
+    ensures found { IfSome result (λ place. (e : Edge N.Node) × At walk.now place e × (e.to ≡ node)) }
+    ensures absent { IfNone result (edges_to N.Node.eq node walk.now ≡ []) }
 {
-    let mut edges = match arrivals.swap_remove(&edge.to) {
-        Some(edges) => edges,
-        None => Vec::new(alloc),
-    };
-    edges.push(edge)?;
-    let _ = arrivals.insert(edge.to, edges)?;
-    Ok(())
+    let rank = net.rank(node);
+    let place = walk.partition_point(|edge| rank < net.rank(edge.to));
+    if comes_to::<N>(walk, place, node) {
+        Some(place)
+    } else {
+        None
+    }
 }
 
-/// The edges of the flow that come to the node.
-pub fn edges_into<N: LazyNet>(arrivals: &Arrivals<N::Node>, node: N::Node) -> &[Edge<N::Node>]
-    ensures { result.now ≡ edges_in N.Node.eq arrivals.now node }
+fn comes_to<N: LazyNet>(walk: &[Edge<N::Node>], place: usize, node: N::Node) -> bool
+    ensures { IsTrue result ↔ ((e : Edge N.Node) × At walk.now place e × (e.to ≡ node)) }
 {
-    match arrivals.get(&node) {
-        Some(edges) => edges.as_slice(),
-        None => &[],
-    }
+    place < walk.len() && walk[place].to == node
 }
 
 /// Takes the edge out of the flow and of the walk in hand, which is kept from its last edge to its

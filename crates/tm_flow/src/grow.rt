@@ -1,10 +1,11 @@
 // One more walk: the steps of a way are undone from its end back to the root, with the walk from there
 // to an end in hand.
 
-ghost use Rattle.std.specs.Prelude.{◌≡◌, ◌+◌, length, map, reverse, OnOk};
-ghost use Rattle.tm_flow.specs.Flows.{AreWalks, IsFlow};
-ghost use Rattle.tm_flow.specs.Lists.{lists_in};
+ghost use Rattle.std.specs.Prelude.{◌≡◌, ◌+◌, ◌⊎◌, length, map, reverse, OnOk};
+ghost use Rattle.tm_flow.specs.Flows.{AreWalks, InFlow, IsFlow};
+ghost use Rattle.tm_flow.specs.Lists.{Has, lists_in};
 ghost use Rattle.tm_flow.specs.Searches.{CanUndo, IsUndone, CanGrow};
+ghost use Rattle.tm_flow.specs.declared.flow.Edge.{Edge};
 
 use crate::flow::{Edge, take_back};
 use crate::net::LazyNet;
@@ -25,8 +26,10 @@ pub fn augment<N: LazyNet>(
         → CanGrow (N.shape net.now) N.Node.eq root (lists_in walks.old.items) way.now
         → IsFlow (N.shape net.now) N.Node.eq root (lists_in walks.new.items)) }
     ensures len { OnOk result (length walks.new.items ≡ length walks.old.items + 1) }
+    ensures edges { OnOk result ((e : Edge N.Node) → InFlow (lists_in walks.new.items) e
+        → InFlow (lists_in walks.old.items) e ⊎ Has (map (λ t. t.side.node) way.now) e.to) }
 {
-    let mut rest = Vec::new(alloc);
+    let mut rest = Vec::with_capacity(alloc, way.len())?;
     let mut at = way.len().saturating_sub(1);
     while at > 0 {
         let taken = way[at];

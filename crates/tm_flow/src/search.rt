@@ -1,16 +1,16 @@
 // A search for one more walk, and the way to its end. Each node has two sides: walks come to the near
 // side and leave from the far side. The search meets sides, from the far side of the root on, and keeps
-// a number and two marks for each node that it has met. Of the way that it came it keeps only the one
-// that it stands on.
+// a number and marks for each node that it has met. Of the way that it came it keeps only the one that
+// it stands on. The nodes keep their numbers from one search of a root to the next.
 
-ghost use Rattle.std.specs.Prelude.{◌≡◌, ◌⊎◌, ℕ, ◌<◌, IsTrue, true, false, List, [], IfOk, OnOk};
-ghost use Rattle.tm_flow.specs.Flows.{edges_in};
+ghost use Rattle.std.specs.Prelude.{◌≡◌, ◌⊎◌, ℕ, ◌<◌, IsTrue, true, false, List, [], length, map, IfOk, OnOk};
+ghost use Rattle.tm_flow.specs.Flows.{Leads, AreWalks, InFlow, all_edges_to};
 ghost use Rattle.tm_flow.specs.declared.flow.Edge.{Edge};
-ghost use Rattle.tm_flow.specs.Lists.{Each, At};
-ghost use Rattle.tm_flow.specs.Nets.{Shape, Reaches};
-ghost use Rattle.tm_flow.specs.Searches.{near, far, mark_of, with_mark, no_marks, IsRead, IsBack, IsStep, Follows, IsGoal, IsMarked, IsNumbered, Names, Meets, Grows, IsOutcome, is_far_met};
+ghost use Rattle.tm_flow.specs.Lists.{Each, At, lists_in};
+ghost use Rattle.tm_flow.specs.Nets.{Shape};
+ghost use Rattle.tm_flow.specs.Searches.{near, far, mark_of, with_mark, no_marks, unmet, with_use, IsRead, IsBack, IsStep, Follows, IsGoal, IsMarked, IsUsed, IsKnown, IsNumbered, Names, Meets, Grows, IsOutcome, is_far_met};
 
-use crate::flow::{Arrivals, Edge, edges_into};
+use crate::flow::{Edge, edges_into};
 use crate::net::LazyNet;
 use indexmap::IndexSet;
 use std::alloc::Global;
@@ -55,11 +55,12 @@ pub enum Step {
     Back(u32),
 }
 
-/// A side that a way comes to, and the step to it.
+/// A side that a way comes to, the step to it, and the number of its node.
 #[derive(Clone, Copy)]
 pub struct Taken<T> {
     pub side: Side<T>,
     pub step: Step,
+    pub number: usize,
 }
 
 /// A side that was met and whose steps are still to be taken: the step to it, the number of its node,
@@ -72,11 +73,13 @@ pub struct Waiting<T> {
     pub depth: usize,
 }
 
-/// Which sides of a node have been met.
+/// Which sides of a node have been met, and whether walks of the flow may come to it: where `used` is
+/// not set none does, so that only nodes of walks are looked for on the walks.
 #[derive(Clone, Copy)]
 pub struct Marks {
     pub near: bool,
     pub far: bool,
+    pub used: bool,
 }
 
 impl Marks {
@@ -86,6 +89,29 @@ impl Marks {
         Marks {
             near: false,
             far: false,
+            used: false,
+        }
+    }
+
+    /// No side met, for the next search.
+    fn unmet(self) -> Self
+        ensures { result ≡ unmet self }
+    {
+        Marks {
+            near: false,
+            far: false,
+            used: self.used,
+        }
+    }
+
+    /// A walk comes to the node.
+    pub fn with_use(self) -> Self
+        ensures { result ≡ with_use self }
+    {
+        Marks {
+            near: self.near,
+            far: self.far,
+            used: true,
         }
     }
 
@@ -102,17 +128,19 @@ impl Marks {
             Marks {
                 near: self.near,
                 far: true,
+                used: self.used,
             }
         } else {
             Marks {
                 near: true,
                 far: self.far,
+                used: self.used,
             }
         }
     }
 }
 
-/// The nodes that a search has met, each with its number and its marks.
+/// The nodes that the searches of a root have met, each with its number and its marks.
 #[derive(Drop)]
 pub struct Met<T: Eq + Hash> {
     pub nodes: IndexSet<T>,
@@ -126,64 +154,101 @@ pub struct Search<T: Eq + Hash> {
     pub pending: Vec<Waiting<T>>,
 }
 
-/// What a search found: the way to the far side of an end, or no end among all that it could meet.
+/// The memory of searches: the search, the way that it stands on, and the edges of the flow that come
+/// to the node in hand.
 #[derive(Drop)]
-pub enum Searched<T: Eq + Hash> {
-    Walk(Vec<Taken<T>>),
-    Nowhere(Met<T>),
+pub struct Memory<T: Eq + Hash> {
+    pub search: Search<T>,
+    pub way: Vec<Taken<T>>,
+    pub edges: Vec<Edge<T>>,
+}
+
+impl<T: Eq + Hash> Memory<T> {
+    pub fn new(alloc: Global) -> Self {
+        Memory {
+            search: Search {
+                met: Met {
+                    nodes: IndexSet::new(alloc),
+                    marks: Vec::new(alloc),
+                },
+                pending: Vec::new(alloc),
+            },
+            way: Vec::new(alloc),
+            edges: Vec::new(alloc),
+        }
+    }
+}
+
+/// What a search found: its way comes to the far side of an end, or no end is among all that it could
+/// meet.
+#[derive(Clone, Copy)]
+pub enum Searched {
+    Walk,
+    Nowhere,
 }
 
 /// Searches for one more walk from the root, depth first.
 pub fn find_walk<N: LazyNet>(
-    alloc: Global,
     net: &N,
-    arrivals: &Arrivals<N::Node>,
+    walks: &[Vec<Edge<N::Node>>],
+    memory: &mut Memory<N::Node>,
     root: N::Node,
-) -> Result<Searched<N::Node>, NoMemory>
-    requires { (v : N.Node) → Each (λ e. Reaches (N.shape net.now) root e.from)
-        (edges_in N.Node.eq arrivals.now v) }
-    ensures { IfOk result (IsOutcome (N.shape net.now) (edges_in N.Node.eq arrivals.now) root) }
+) -> Result<Searched, NoMemory>
+    requires walks { Each (Leads (N.shape net.now) root) (lists_in walks.now) }
+    requires known { IsKnown (N.shape net.now) root (lists_in walks.now) memory.old.search.met.nodes.keys
+        memory.old.search.met.marks.items }
+    ensures outcome { IfOk result (IsOutcome (N.shape net.now)
+        (λ v. all_edges_to N.Node.eq v (lists_in walks.now)) root
+        memory.new.search.met.nodes.keys memory.new.search.met.marks.items memory.new.way.items) }
+    ensures known { OnOk result (IsKnown (N.shape net.now) root (lists_in walks.now)
+        memory.new.search.met.nodes.keys memory.new.search.met.marks.items) }
+    ensures numbers { OnOk result (Each (λ t. At memory.new.search.met.nodes.keys t.number t.side.node)
+        memory.new.way.items) }
 {
-    let mut search = begin::<N>(alloc, root)?;
-    let mut way = Vec::new(alloc);
-    while let Some(next) = search.pending.pop() {
-        way.truncate(next.depth);
-        way.push(Taken {
+    begin::<N>(memory, root)?;
+    while let Some(next) = memory.search.pending.pop() {
+        memory.way.truncate(next.depth);
+        memory.way.push(Taken {
             side: next.side,
             step: next.step,
+            number: next.number,
         })?;
         if is_goal(net, next.side) {
-            return Ok(Searched::Walk(way));
+            return Ok(Searched::Walk);
         }
-        meet_next(
-            net,
-            arrivals,
-            &mut search,
-            next.side,
-            next.number,
-            way.len(),
-        )?;
+        meet_next(net, walks, memory, next.side, next.number)?;
     }
-    Ok(Searched::Nowhere(search.met))
+    Ok(Searched::Nowhere)
 }
 
 /// A search that has met the far side of the root alone.
-fn begin<N: LazyNet>(alloc: Global, root: N::Node) -> Result<Search<N::Node>, NoMemory>
-    ensures meets { IfOk result (λ s. Meets (λ p t. (p ≡ far root) × (t ≡ Step.Cross)) 0 [] [] []
-        s.met.nodes.keys s.met.marks.items s.pending.items) }
-    ensures met { IfOk result (λ s. IsMarked s.met.nodes.keys s.met.marks.items (far root)) }
+fn begin<N: LazyNet>(memory: &mut Memory<N::Node>, root: N::Node) -> Result<(), NoMemory>
+    requires { IsNumbered memory.old.search.met.nodes.keys memory.old.search.met.marks.items }
+    ensures meets { OnOk result (Meets (λ p t. (p ≡ far root) × (t ≡ Step.Cross)) 0
+        memory.old.search.met.nodes.keys (map unmet memory.old.search.met.marks.items) []
+        memory.new.search.met.nodes.keys memory.new.search.met.marks.items
+        memory.new.search.pending.items) }
+    ensures met { OnOk result (IsMarked memory.new.search.met.nodes.keys
+        memory.new.search.met.marks.items (far root)) }
+    ensures way { OnOk result (memory.new.way.items ≡ []) }
 {
-    let mut search = Search {
-        met: Met {
-            nodes: IndexSet::new(alloc),
-            marks: Vec::new(alloc),
-        },
-        pending: Vec::new(alloc),
-    };
-    meet_at::<N>(&mut search, Side::far(root), Step::Cross, 0)?;
-    Ok(search)
+    unmark::<N>(&mut memory.search.met);
+    memory.search.pending.clear();
+    memory.way.clear();
+    meet_at::<N>(&mut memory.search, Side::far(root), Step::Cross, 0)
 }
 
+/// No side has been met, and the nodes keep their numbers.
+fn unmark<N: LazyNet>(met: &mut Met<N::Node>)
+    ensures nodes { met.new.nodes.keys ≡ met.old.nodes.keys }
+    ensures marks { met.new.marks.items ≡ map unmet met.old.marks.items }
+{
+    for marks in met.marks.iter_mut() {
+        *marks = marks.unmet();
+    }
+}
+
+/// Whether the side is the far side of an end.
 fn is_goal<N: LazyNet>(net: &N, side: Side<N::Node>) -> bool
     ensures yes { IsTrue result → IsGoal (N.shape net.now) side }
     ensures no { result ≡ false → IsGoal (N.shape net.now) side → ⊥ }
@@ -191,7 +256,6 @@ fn is_goal<N: LazyNet>(net: &N, side: Side<N::Node>) -> bool
     side.is_far && net.is_end(side.node)
 }
 
-/// Whether the far side of the node has been met.
 pub fn is_far_met<N: LazyNet>(met: &Met<N::Node>, node: N::Node) -> bool
     requires { IsNumbered met.now.nodes.keys met.now.marks.items }
     ensures { result ≡ is_far_met N.Node.eq met.now.nodes.keys met.now.marks.items node }
@@ -203,16 +267,21 @@ pub fn is_far_met<N: LazyNet>(met: &Met<N::Node>, node: N::Node) -> bool
 }
 
 /// The number of the node, which is the next one where it has none yet.
-fn number_of<N: LazyNet>(met: &mut Met<N::Node>, node: N::Node) -> Result<usize, NoMemory>
+pub fn number_of<N: LazyNet>(met: &mut Met<N::Node>, node: N::Node) -> Result<usize, NoMemory>
     requires { IsNumbered met.old.nodes.keys met.old.marks.items }
     ensures { IfOk result (λ number. Names node number met.old.nodes.keys met.old.marks.items
         met.new.nodes.keys met.new.marks.items) }
 {
-    let (number, is_new) = met.nodes.insert_full(node)?;
-    if is_new {
-        met.marks.push(Marks::none())?;
+    // Each edge that is taken up comes here: the `match` is faster than a `?`, which copies the number once more.
+    match met.nodes.insert_full(node) {
+        Ok((number, is_new)) => {
+            if is_new {
+                met.marks.push(Marks::none())?;
+            }
+            Ok(number)
+        }
+        Err(_no_memory) => Err(NoMemory),
     }
-    Ok(number)
 }
 
 fn meet_at<N: LazyNet>(
@@ -255,29 +324,41 @@ fn meet<N: LazyNet>(search: &mut Search<N::Node>, next: Waiting<N::Node>) -> Res
     Ok(())
 }
 
-/// Meets each side that one step leads to from this one, which is the last of a way of `depth` sides.
+/// Meets each side that one step leads to from this one, which is the last of the way.
 fn meet_next<N: LazyNet>(
     net: &N,
-    arrivals: &Arrivals<N::Node>,
-    search: &mut Search<N::Node>,
+    walks: &[Vec<Edge<N::Node>>],
+    memory: &mut Memory<N::Node>,
     side: Side<N::Node>,
     number: usize,
-    depth: usize,
 ) -> Result<(), NoMemory>
-    requires numbered { IsNumbered search.old.met.nodes.keys search.old.met.marks.items }
-    requires number { At search.old.met.nodes.keys number side.node }
+    requires walks { AreWalks (N.shape net.now) (lists_in walks.now) }
+    requires numbered { IsNumbered memory.old.search.met.nodes.keys memory.old.search.met.marks.items }
+    requires number { At memory.old.search.met.nodes.keys number side.node }
+    requires used { (e : Edge N.Node) → InFlow (lists_in walks.now) e → IsUsed
+        memory.old.search.met.nodes.keys memory.old.search.met.marks.items e.to }
     ensures meets { OnOk result (Grows (λ s t. IsStep (N.shape net.now)
-        (edges_in N.Node.eq arrivals.now side.node) side t s) depth search.old search.new) }
+        (all_edges_to N.Node.eq side.node (lists_in walks.now)) side t s)
+        (length memory.old.way.items) memory.old.search memory.new.search) }
     ensures follows { OnOk result (Follows (N.shape net.now)
-        (edges_in N.Node.eq arrivals.now side.node)
-        (IsMarked search.new.met.nodes.keys search.new.met.marks.items) side) }
+        (all_edges_to N.Node.eq side.node (lists_in walks.now)) (IsMarked
+        memory.new.search.met.nodes.keys memory.new.search.met.marks.items) side) }
+    ensures way { OnOk result (memory.new.way.items ≡ memory.old.way.items) }
 {
+    let depth = memory.way.len();
     if side.is_far {
-        meet_from_far(net, search, side.node, number, depth)
-    } else {
-        let edges = edges_into::<N>(arrivals, side.node);
-        meet_from_near(net, edges, search, side.node, number, depth)
+        return meet_from_far(net, &mut memory.search, side.node, number, depth);
     }
+    let is_used = memory.search.met.marks[number].used;
+    edges_into(net, walks, is_used, side.node, &mut memory.edges)?;
+    meet_from_near(
+        net,
+        memory.edges.as_slice(),
+        &mut memory.search,
+        side.node,
+        number,
+        depth,
+    )
 }
 
 /// What is met last is taken first: the reads in their order, and then the way back.

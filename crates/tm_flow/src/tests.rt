@@ -3,7 +3,7 @@
 ghost use Rattle.std.specs.Prelude.{◌≡◌, ℕ, ◌+◌, ◌-◌, ◌*◌, ◌^◌, ◌<◌, ◌≤◌, ◌&&◌, ◌==◌, min, nat_lt, nat_le, slice_index, slice_index_or, true, false, if◌then◌else◌};
 ghost use Rattle.tm_flow.specs.TestNets.{small, tree, small_falls, small_below, small_ends, tree_falls, tree_below, tree_ends, same_number};
 
-use crate::{Found, LazyNet, cut_or_walks, cut_or_walks_from};
+use crate::{Found, LazyNet, Searcher, cut_or_walks, cut_or_walks_from};
 use std::alloc::Global;
 use std::process::Abort;
 use std::test::Fail;
@@ -431,10 +431,15 @@ const ROWS: [Row<'static>; 22] = [
     },
 ];
 
-fn check(rt: &impl Abort, alloc: Global, row: Row) -> Result<(), Fail> {
+fn check(
+    rt: &impl Abort,
+    alloc: Global,
+    searcher: &mut Searcher<u32>,
+    row: Row,
+) -> Result<(), Fail> {
     let net = net(row.edges, row.ends, row.cuts);
     assert!(rt; row.k <= 8 && !net.is_end(15));
-    match (cut_or_walks(alloc, &net, 15, row.k)?, row.expected) {
+    match (searcher.cut_or_walks(alloc, &net, 15, row.k)?, row.expected) {
         (Found::Cut(mut nodes), Expected::Cut(expected)) => {
             nodes.as_mut_slice().sort_unstable();
             assert_eq!(rt; nodes.as_slice(), expected, "{}", row.name);
@@ -449,8 +454,9 @@ fn check(rt: &impl Abort, alloc: Global, row: Row) -> Result<(), Fail> {
 
 #[test]
 fn small_nets(rt: HostRuntime) -> Result<(), Fail> {
+    let mut searcher = Searcher::new(rt.alloc());
     for row in ROWS {
-        check(&rt, rt.alloc(), row)?;
+        check(&rt, rt.alloc(), &mut searcher, row)?;
     }
     Ok(())
 }
@@ -472,13 +478,27 @@ fn a_net_that_no_memory_holds(rt: HostRuntime) -> Result<(), Fail> {
     Ok(())
 }
 
-/// A search of the tree that starts from the walk along its left side.
-fn from_left_side(alloc: Global, k: u32) -> Result<Found<u64>, NoMemory>
+/// A search of the tree that starts from the walk along its left side, which is known twice.
+fn from_left_side(
+    alloc: Global,
+    searcher: &mut Searcher<u64>,
+    k: u32,
+) -> Result<Found<u64>, NoMemory>
     requires { k ≤ 8 }
 {
     let left = vec![in alloc; 0; 40]?;
+    let again = vec![in alloc; 0; 40]?;
+    let known = vec![in alloc; left, again]?;
+    searcher.cut_or_walks_from(alloc, &Tree, 1, k, known.as_slice())
+}
+
+/// A search below node 2, where no node may be cut, from a known walk.
+fn from_free_walk(alloc: Global, k: u32) -> Result<Found<u64>, NoMemory>
+    requires { k ≤ 8 }
+{
+    let left = vec![in alloc; 0; 39]?;
     let known = vec![in alloc; left]?;
-    cut_or_walks_from(alloc, &Tree, 1, k, known.as_slice())
+    cut_or_walks_from(alloc, &Tree, 2, k, known.as_slice())
 }
 
 fn number_of_walks(found: Found<u64>) -> usize {
@@ -491,11 +511,19 @@ fn number_of_walks(found: Found<u64>) -> usize {
 #[test]
 fn known_walks(rt: HostRuntime) -> Result<(), Fail> {
     let alloc = rt.alloc();
+    let mut searcher = Searcher::new(alloc);
     assert_eq!(rt;
-        from_left_side(alloc, 2)?,
+        from_left_side(alloc, &mut searcher, 2)?,
         Found::Cut(vec![in alloc; 2, 3]?)
     );
-    assert_eq!(rt; number_of_walks(from_left_side(alloc, 1)?), 2);
-    assert_eq!(rt; number_of_walks(from_left_side(alloc, 0)?), 1);
+    assert_eq!(rt;
+        number_of_walks(from_left_side(alloc, &mut searcher, 1)?),
+        2
+    );
+    assert_eq!(rt;
+        number_of_walks(from_left_side(alloc, &mut searcher, 0)?),
+        1
+    );
+    assert_eq!(rt; number_of_walks(from_free_walk(alloc, 2)?), 1);
     Ok(())
 }

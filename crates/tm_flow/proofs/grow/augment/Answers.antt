@@ -1,20 +1,21 @@
-use Rattle.std.proofs.Common.{◌≡◌, ◌++◌, ◌-◌, ◌<◌, [], ◌∷◌, length, map, reverse, refl, sym, ap, subst, ◌∙◌, slice_index_or, arith}
+use Rattle.std.proofs.Common.{◌≡◌, ◌++◌, ◌-◌, ◌<◌, [], ◌∷◌, length, map, reverse, inl, inr, refl, sym, ap, subst, ◌∙◌, slice_index_or, arith}
 use Rattle.std.proofs.lemmas.List.{map-append, length-map}
-use Rattle.tm_flow.specs.Flows.{IsFlow}
-use Rattle.tm_flow.specs.Lists.{At}
+use Rattle.tm_flow.specs.Flows.{InFlow, IsFlow}
+use Rattle.tm_flow.specs.Lists.{Has, At}
 use Rattle.tm_flow.specs.Searches.{sides}
-use Rattle.tm_flow.proofs.PlaceLemmas.{at_within, at_get_or, at_named}
+use Rattle.tm_flow.proofs.PlaceLemmas.{at_within, at_has, at_image, at_get_or, at_named}
 use Rattle.tm_flow.proofs.SearchLemmas.{length-sides, at_side}
-use Rattle.tm_flow.proofs.Augment.{Unwinds, unwinds_first, unwinds_on, unwinds_last, can_undo, walks_lead, undone_length}
+use Rattle.tm_flow.proofs.Augment.{Unwinds, unwinds_first, unwinds_on, unwinds_last, can_undo, walks_lead, undone_length, undone_edges, in_hand_too}
 use Rattle.tm_flow.proofs.grow.augment.Goals as goal
 
 pub loop-at-init : goal.loop-at-init
 loop-at-init g c = record {
   unwinds = λ root can.
       let ws = map (λ w. w.items) c.args.walks.now.items in
-      subst (λ k. Unwinds (g.N.LazyNet.shape c.args.net.now) g.N.Node.PartialEq.eq g.met.N.LazyNet.same_if_equal root c.args.way.now k ws (reverse c.new-rest.result.items)) (sym c.saturating_sub-at.ensures)
-      (subst (Unwinds (g.N.LazyNet.shape c.args.net.now) g.N.Node.PartialEq.eq g.met.N.LazyNet.same_if_equal root c.args.way.now (length c.args.way.now - 1) ws) (sym (ap reverse c.new-rest.ensures.items))
+      subst (λ k. Unwinds (g.N.LazyNet.shape c.args.net.now) g.N.Node.PartialEq.eq g.met.N.LazyNet.same_if_equal root c.args.way.now k ws (reverse c.in_ok-rest.rest.items)) (sym c.saturating_sub-at.ensures)
+      (subst (Unwinds (g.N.LazyNet.shape c.args.net.now) g.N.Node.PartialEq.eq g.met.N.LazyNet.same_if_equal root c.args.way.now (length c.args.way.now - 1) ws) (sym (ap reverse c.in_ok-rest.ensures.items))
       (unwinds_first (g.N.LazyNet.shape c.args.net.now) g.N.Node.PartialEq.eq g.met.N.LazyNet.same_if_equal root ws c.args.way.now can));
+  comes = λ e h. elim h [ inl on ↦ absurd (subst (λ l. Has (reverse l) e) c.in_ok-rest.ensures.items on) | inr old ↦ inl old ];
   len = refl;
 }
 
@@ -73,6 +74,12 @@ loop-at-preserved g c =
           unwinds_on (g.N.LazyNet.shape c.args.net.now) g.N.Node.PartialEq.eq g.met.N.LazyNet.same_if_equal root _ ts can.way c.loop-at.at c.index-way-at.result
           (slice_index_or ts (c.loop-at.at - 1) c.index-way-at-in-loop-at.result).side _ _ _ _
           here before (omega arith) c.in_ok-undo.ensures (c.loop-at.invariant.unwinds root can);
+      comes = λ e h.
+          elim (undone_edges (slice_index_or ts (c.loop-at.at - 1) c.index-way-at-in-loop-at.result).side c.index-way-at.result.step c.index-way-at.result.side _ _ _ _ c.in_ok-undo.ensures e h) [
+            | inl before_it ↦ c.loop-at.invariant.comes e before_it
+            | inr is ↦ inr (subst (Has (map (λ t. t.side.node) ts)) is (at_has (map (λ t. t.side.node) ts) c.loop-at.at c.index-way-at.result.side.node
+                (at_image (λ t. t.side.node) ts c.loop-at.at c.index-way-at.result here)))
+          ];
       len =
           sym (length-map c.undo.new.walks.items (λ w. w.items))
           ∙ undone_length (slice_index_or ts (c.loop-at.at - 1) c.index-way-at-in-loop-at.result).side c.index-way-at.result.step c.index-way-at.result.side _ _ _ _ c.in_ok-undo.ensures
@@ -89,3 +96,9 @@ returns-clause-flow g c root can =
     let at_root = subst (λ k. Unwinds n eq g.met.N.LazyNet.same_if_equal root ts k ws (reverse c.loop-at.rest.items)) zeroth (c.loop-at.invariant.unwinds root can) in
     let grown : IsFlow n eq root (ws ++ reverse c.loop-at.rest.items ∷ []) = unwinds_last n eq g.met.N.LazyNet.same_if_equal root _ ts can.way ws (reverse c.loop-at.rest.items) at_root in
     subst (IsFlow n eq root) (sym (ap (map (λ w. w.items)) c.in_ok-push.ensures.items ∙ map-append (λ w. w.items) c.loop-at.walks.items (c.reverse.new.self ∷ []) ∙ ap (λ l. ws ++ l ∷ []) c.reverse.ensures.items)) grown
+
+pub returns-clause-edges : goal.returns-clause-edges
+returns-clause-edges g c e h =
+    let ws = map (λ w. w.items) c.loop-at.walks.items in
+    c.loop-at.invariant.comes e (in_hand_too ws (reverse c.loop-at.rest.items) e
+    (subst (λ l. InFlow l e) (ap (map (λ w. w.items)) c.in_ok-push.ensures.items ∙ map-append (λ w. w.items) c.loop-at.walks.items (c.reverse.new.self ∷ []) ∙ ap (λ l. ws ++ l ∷ []) c.reverse.ensures.items) h))

@@ -1,5 +1,5 @@
 use Rattle.std.proofs.Common.{set, sym, ap, ◌∙◌, arith}
-use Rattle.tm_flow.proofs.MarkLemmas.{marked_already, not_marked, marked_there, marked_stays, marked_grown, marked_count, marked_even}
+use Rattle.tm_flow.proofs.MarkLemmas.{marked_already, not_marked, marked_there, marked_stays, used_stays, marked_grown, marked_count, marked_even}
 use Rattle.tm_flow.proofs.PlaceLemmas.{at_named, at_within}
 use Rattle.tm_flow.proofs.SearchLemmas.{meets_none, meets_one}
 use Rattle.tm_flow.proofs.search.meet.Goals as goal
@@ -34,6 +34,7 @@ returns-clause-meets g c =
     (not_marked nodes marks c.requires.numbered w.number w.side m c.requires.number has unmarked)
     (marked_grown nodes marks c.requires.numbered w.number w.side m c.requires.number has _ written)
     (marked_stays nodes marks c.requires.numbered w.number w.side m c.requires.number has _ written)
+    (used_stays nodes marks c.requires.numbered w.number w.side m c.requires.number has _ written)
     (marked_count nodes marks c.requires.numbered w.number w.side m c.requires.number has _ written unmarked)
     c.in_ok-push.ensures.items
 
