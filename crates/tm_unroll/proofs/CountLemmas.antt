@@ -12,7 +12,7 @@ use Rattle.tm_unroll.specs.declared.node.Node.{Node}
 use Rattle.tm_unroll.specs.declared.cover.Search.{Search}
 use Rattle.tm_unroll.specs.Nodes.{node_at, reads_of, reads}
 use Rattle.tm_unroll.specs.Walks.{LeadsTo}
-use Rattle.tm_unroll.specs.Searches.{met_by, left_by, Meets, IsSearch}
+use Rattle.tm_unroll.specs.Searches.{met_by, left_by, MeetsMore, IsSearch}
 use Rattle.tm_unroll.proofs.ListLemmas.{fits, apart_from_pairs}
 use Rattle.tm_unroll.proofs.ReadLemmas.{same_node, falls_lem}
 use Rattle.tm_unroll.proofs.SearchLemmas.{Pops}
@@ -95,7 +95,7 @@ abbrev pub room : List Drive → Search → ℕ
 room drives s = length drives * suc s.root.advance + length (left_by s) - length (met_by s)
 
 -- A turn takes one node, and what it meets is left, so that the room becomes less.
-pub room_less : (c : Plain) → IsSound c → (s p n : Search) (x : Node) (nodes : List Node) → IsSearch c.drives s → IsSearch c.drives n → Pops x s p → Meets nodes p n
+pub room_less : (c : Plain) → IsSound c → (s p n : Search) (x : Node) (nodes : List Node) → IsSearch c.drives s → IsSearch c.drives n → Pops x s p → MeetsMore nodes p n
     → room c.drives n < room c.drives s
 room_less c sound s p n x nodes search after pops m =
     let root : n.root ≡ s.root = m.root ∙ pops.root in

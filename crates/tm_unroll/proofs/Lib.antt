@@ -5,8 +5,11 @@ pub mod ChainLemmas
 pub mod LagLemmas
 pub mod FaultLemmas
 pub mod JudgeLemmas
+pub mod OrderLemmas
+pub mod BehindLemmas
 pub mod OwnLemmas
 pub mod DepthLemmas
+pub mod FloorLemmas
 pub mod SearchLemmas
 pub mod CountLemmas
 pub mod EachLemmas
@@ -17,3 +20,7 @@ pub mod PlaceLemmas
 pub mod TurnLemmas
 pub mod ChoiceLemmas
 pub mod PeriodLemmas
+pub mod NetLemmas
+pub mod ReplaceLemmas
+pub mod LeafLemmas
+pub mod AddLemmas

@@ -1,5 +1,6 @@
--- Each gate as its own table: there is such a mapping, it is lawful, and its chains are chains of the circuit.
-use Rattle.std.proofs.Common.{◌≡◌, ℕ, zero, suc, ◌<◌, ◌≤◌, inl, inr, Bool, true, false, List, [], ◌∷◌, ◌++◌, map, length, refl, sym, ◌∙◌, ap, subst, arith}
+-- Each gate as its own table, at the lag of a base: there is such a mapping, it is lawful, and its chains are chains of the
+-- circuit. At base 0 it is the mapping at lag 0.
+use Rattle.std.proofs.Common.{◌≡◌, ℕ, zero, suc, ◌<◌, ◌≤◌, ◌⊎◌, inl, inr, Bool, true, false, List, [], ◌∷◌, ◌++◌, map, length, refl, sym, ◌∙◌, ap, subst, arith}
 use Rattle.std.specs.Prelude.{Contains, AllPairs, slice_index_or}
 use Rattle.std.proofs.lemmas.Bool.{cases_lt}
 use Rattle.std.proofs.lemmas.List.{length-map}
@@ -7,16 +8,21 @@ use Rattle.std.proofs.lemmas.List.Elements.{Contains-push, Contains-append_left,
 use Rattle.tm_circuit.specs.Plain.{Plain, Drive, input, latch, gate, drive_in, is_gate, pins_of, widest}
 use Rattle.tm_circuit.specs.Chain.{IsGate, IsPeriod, IsChain as IsGateChain}
 use Rattle.tm_circuit.specs.Sound.{IsSound, ReadsBelow}
-use Rattle.tm_circuit.proofs.ListLemmas.{contains-first, contains-none, contains-map, greatest-above}
+use Rattle.tm_circuit.proofs.ListLemmas.{contains-first, contains-cases, contains-none, contains-map, contains-unmap, greatest-above}
 use Rattle.tm_unroll.specs.declared.node.Node.{Node}
-use Rattle.tm_unroll.specs.Nodes.{node_at, reads_of, is_end_of, IsBefore}
-use Rattle.tm_unroll.specs.Walks.{IsWalk, LeadsTo, MeetsLeaf, Covers}
-use Rattle.tm_unroll.specs.Mappings.{Table, root, IsLeafOf, HasLeaves, HasTable, HasSourceTable, IsServedOf, AreServed, IsLawful}
+use Rattle.tm_unroll.specs.Nodes.{node_at, reads, is_end_of, IsBefore}
+use Rattle.tm_unroll.specs.Walks.{IsReached, Covers}
+use Rattle.tm_unroll.specs.Mappings.{Table, root, IsLeaf, HasLeaves, HasTable, HasSourceTable, IsServedOf, AreServed, IsLawfulFrom}
 use Rattle.tm_unroll.specs.Chains.{IsChain, HasChainsWithin}
-use Rattle.tm_unroll.specs.Own.{IsOwnTable, IsOwnMapping, OwnTablesServe}
-use Rattle.tm_unroll.proofs.ListLemmas.{fits, apart_from_pairs, stands_or_not, before-never, pairs-push}
+use Rattle.tm_unroll.specs.Replaced.{ReplacesEach}
+use Rattle.tm_unroll.specs.Latches.{behind_latches, NeedAtMost}
+use Rattle.tm_unroll.specs.Own.{IsOwnMapping, OwnTablesServe, IsOwnTableFrom, IsOwnMappingFrom, OwnTablesServeFrom}
+use Rattle.tm_unroll.proofs.ListLemmas.{fits, apart_from_pairs, before-never, pairs-push}
 use Rattle.tm_unroll.proofs.ReadLemmas.{same_node, gate_reads, reads_pin}
 use Rattle.tm_unroll.proofs.JudgeLemmas.{gate_within}
+use Rattle.tm_unroll.proofs.ReplaceLemmas.{reads_cover, each_replaced}
+use Rattle.tm_unroll.proofs.OrderLemmas.{in_order}
+use Rattle.tm_unroll.proofs.BehindLemmas.{behind_low, behind_same, behind_leaf, behind_within, behind_covers}
 
 -- ---- such a mapping is lawful
 
@@ -47,187 +53,187 @@ pub pins_few : (drives : List Drive) (g : ℕ) → g < length drives → length 
 pins_few drives g inside =
     greatest-above (map (λ d. length (pins_of d)) drives) (length (pins_of (drive_in drives g))) (contains-map (λ d. length (pins_of d)) drives (drive_in drives g) (drive_stands drives g inside))
 
--- At advance 0 every kind of signal is a leaf.
-leaf_now : (d : Drive) (lag a : ℕ) → a ≡ 0 → IsLeafOf 0 d lag a
-leaf_now input lag a now = omega arith
-leaf_now (latch next init) lag a now = now
-leaf_now (gate pins cover) lag a now = omega arith
+gate_goes_on : (d : Drive) (a : ℕ) → is_gate d ≡ true → is_end_of d a ≡ false
+gate_goes_on input a is = cc
+gate_goes_on (latch next init) a is = cc
+gate_goes_on (gate pins cover) a is = refl
 
-gate_no_end : (d : Drive) (a : ℕ) → is_gate d ≡ true → is_end_of d a ≡ true → ⊥
-gate_no_end input a is ends = cc
-gate_no_end (latch next init) a is ends = cc
-gate_no_end (gate pins cover) a is ends = cc
-
-module _ (c : Plain) (k d : ℕ) (sound : IsSound c) (narrow : widest c.drives ≤ k) (tables : List Table) (own : IsOwnMapping c.drives tables) where
+module _ (base : ℕ) (need : ℕ → ℕ) (c : Plain) (k d : ℕ) (sound : IsSound c) (near : base ≤ d) (needs : NeedAtMost base need c) (narrow : widest c.drives ≤ k)
+    (tables : List Table) (own : IsOwnMappingFrom base c.drives tables) where
   has_gate : (t : Table) → Contains tables t → IsGate c.drives t.gate
   has_gate t stands = (own.gates t.gate).1 (t, stands, refl)
 
-  -- Each gate has a table of lag 0.
-  has_table : (g a : ℕ) → IsGate c.drives g → a ≡ 0 → HasTable tables g a
-  has_table g a is now =
+  -- Each gate has a table of each lag up to the base.
+  has_table : (g a : ℕ) → IsGate c.drives g → a ≤ base → HasTable tables g a
+  has_table g a is low =
       let t = (own.gates g).0 is in
-      (t.0, t.1, t.2, omega arith)
+      let lag = (own.own t.0 t.1).lag in
+      (t.0, t.1, t.2, omega (arith, lag, low))
 
-  has_source : (s : ℕ) → HasSourceTable c.drives tables s 0
-  has_source s g source = has_table g 0 source.0 refl
+  has_source : (s a : ℕ) → a ≤ base → HasSourceTable c.drives tables s a
+  has_source s a low g source = has_table g a source.0 low
 
   own_few : (t : Table) → Contains tables t → length t.leaves ≤ k
   own_few t stands =
       let pins = pins_of (drive_in c.drives t.gate) in
       let table = own.own t stands in
       let apart = apart_from_pairs IsBefore t.leaves before-never table.ascending in
-      let few = fits t.leaves (map (λ p. node_at 0 p) pins) apart (λ x leaf.
-      let is = (table.leaves x).0 leaf in
-      subst (λ (y : Node). Contains (map (λ p. node_at 0 p) pins) y) (same_node (node_at 0 x.signal) x refl (sym is.0)) (contains-map (λ p. node_at 0 p) pins x.signal is.1)) in
-      let long = length-map pins (λ p. node_at 0 p) in
+      let few = fits t.leaves (map (λ p. behind_latches c.drives base p) pins) apart (λ x leaf.
+      let (p, pin, is) = (table.leaves x).0 leaf in
+      subst (λ (y : Node). Contains (map (λ q. behind_latches c.drives base q) pins) y) is (contains-map (λ q. behind_latches c.drives base q) pins p pin)) in
+      let long = length-map pins (λ p. behind_latches c.drives base p) in
       let wide = pins_few c.drives t.gate (gate_within c.drives t.gate (has_gate t stands)) in
       omega (arith, few, long, wide, narrow)
 
-  own_leaves : (t : Table) → Contains tables t → HasLeaves 0 c.drives k t
+  own_leaves : (t : Table) → Contains tables t → HasLeaves base c.drives k t
   own_leaves t stands = record {
     few = own_few t stands;
     ascending = (own.own t stands).ascending;
     leaves = λ x leaf.
-        let is = ((own.own t stands).leaves x).0 leaf in
-        record {
-          signal = pins_within c sound t.gate (has_gate t stands) x.signal is.1;
-          kind = leaf_now (drive_in c.drives x.signal) t.lag x.advance is.0;
+        let (p, pin, is) = ((own.own t stands).leaves x).0 leaf in
+        let lag = (own.own t stands).lag in
+        subst (λ (y : Node). IsLeaf base c.drives t.lag y) is record {
+          signal = behind_within c sound base p (pins_within c sound t.gate (has_gate t stands) p pin);
+          kind = behind_leaf base t.lag c.drives base p (omega arith) (omega (arith, lag));
         };
   }
 
-  own_covers : (t : Table) → Contains tables t → Covers c.drives t.leaves (root t)
-  own_covers t stands = record { met = met; reached = reached }
+  -- Each pin is a leaf or covered by one.
+  own_replaces : (t : Table) → Contains tables t → ReplacesEach c.drives (reads c.drives (node_at base t.gate)) t.leaves
+  own_replaces t stands = record { each = each; only = only }
     where
-      met : (walk : List Node) → IsWalk c.drives (root t) walk → MeetsLeaf t.leaves walk
-      met [] walk = absurd (gate_no_end (drive_in c.drives t.gate) t.lag (has_gate t stands) walk)
-      met (y ∷ rest) walk =
-          let read = gate_reads (drive_in c.drives t.gate) t.lag y (has_gate t stands) walk.0 in
-          (y, contains-first y rest, ((own.own t stands).leaves y).1 (read.0 ∙ (own.own t stands).lag, read.1))
+      table : IsOwnTableFrom base c.drives (pins_of (drive_in c.drives t.gate)) t
+      table = own.own t stands
 
-      reached : (y : Node) → Contains t.leaves y → (through : List Node) × LeadsTo c.drives (root t) through y
-      reached y leaf =
-          let is = ((own.own t stands).leaves y).0 leaf in
-          ([], subst (λ (z : Node). Contains (reads_of (drive_in c.drives t.gate) t.lag) z) (same_node (node_at t.lag y.signal) y refl ((own.own t stands).lag ∙ sym is.0)) (reads_pin (drive_in c.drives t.gate) t.lag y.signal is.1))
+      each : (y : Node) → Contains (reads c.drives (node_at base t.gate)) y
+          → Contains t.leaves y ⊎ ((others : List Node) × Covers c.drives others y × ((z : Node) → Contains others z → Contains t.leaves z))
+      each y read =
+          let of = gate_reads (drive_in c.drives t.gate) base y (has_gate t stands) read in
+          let here : node_at base y.signal ≡ y = same_node (node_at base y.signal) y refl (sym of.0) in
+          let end = behind_latches c.drives base y.signal in
+          let leaf : Contains t.leaves end = (table.leaves end).1 (y.signal, of.1, refl) in
+          elim (behind_covers c.drives base y.signal) [
+            | inl same ↦ inl (subst (λ (z : Node). Contains t.leaves z) (same ∙ here) leaf)
+            | inr cover ↦ inr (
+              end ∷ [],
+              subst (λ (z : Node). Covers c.drives (end ∷ []) z) here cover,
+              λ z h. elim (contains-cases end [] z h) [
+                | inl is ↦ subst (λ (v : Node). Contains t.leaves v) is leaf
+                | inr none ↦ absurd (contains-none z none)
+              ],
+            )
+          ]
+
+      only : (z : Node) → Contains t.leaves z
+          → Contains (reads c.drives (node_at base t.gate)) z ⊎ ((y : Node) × Contains (reads c.drives (node_at base t.gate)) y × IsReached c.drives y z)
+      only z leaf =
+          let (p, pin, is) = (table.leaves z).0 leaf in
+          let read = reads_pin (drive_in c.drives t.gate) base p pin in
+          elim (behind_covers c.drives base p) [
+            | inl same ↦ inl (subst (λ (v : Node). Contains (reads c.drives (node_at base t.gate)) v) (sym same ∙ is) read)
+            | inr cover ↦
+                let end = behind_latches c.drives base p in
+                inr (node_at base p, read, subst (λ (v : Node). IsReached c.drives (node_at base p) v) is (cover.reached end (contains-first end [])))
+          ]
+
+  own_covers : (t : Table) → Contains tables t → Covers c.drives t.leaves (root t)
+  own_covers t stands =
+      let x = node_at base t.gate in
+      subst (λ n. Covers c.drives t.leaves (node_at n t.gate)) (sym (own.own t stands).lag)
+      (each_replaced c.drives (reads c.drives x) t.leaves x (reads_cover c.drives x (gate_goes_on (drive_in c.drives t.gate) base (has_gate t stands))) (own_replaces t stands))
 
   own_served : (t : Table) → Contains tables t → AreServed c.drives tables t.leaves
   own_served t stands x leaf = by_drive (drive_in c.drives x.signal) refl
     where
+      low : x.advance ≤ base
+      low =
+          let (p, pin, is) = ((own.own t stands).leaves x).0 leaf in
+          let same = ap (λ (n : Node). n.advance) is in
+          let ahead = behind_low c.drives base p in
+          omega (arith, same, ahead)
+
       by_drive : (e : Drive) → drive_in c.drives x.signal ≡ e → IsServedOf e c.drives tables x
       by_drive input is = tt
-      by_drive (latch next init) is = has_source x.signal
-      by_drive (gate pins cover) is = has_table x.signal x.advance (ap is_gate is) (((own.own t stands).leaves x).0 leaf).0
+      by_drive (latch next init) is = has_source x.signal 0 (omega arith)
+      by_drive (gate pins cover) is = has_table x.signal x.advance (ap is_gate is) low
 
-  own_lawful : IsLawful c k d tables
+  own_lawful : IsLawfulFrom base need c k d tables
   own_lawful = record {
     ascending = own.ascending;
     each = λ t stands.
         record {
           gate = has_gate t stands;
-          lag = let none = (own.own t stands).lag in omega (arith, none);
+          lag = let lag = (own.own t stands).lag in omega (arith, lag, near);
           leaves = own_leaves t stands;
           covers = own_covers t stands;
           served = own_served t stands;
         };
-    outputs = λ s stands. has_source s;
+    outputs = λ s stands. has_source s (need s) (needs s stands);
   }
 
 -- ---- its chains are chains of the circuit
 
-own_first : (drives : List Drive) (tables : List Table) → IsOwnMapping drives tables → (t u : Table) → Contains tables u → Contains u.leaves (root t)
-    → Contains (pins_of (drive_in drives u.gate)) t.gate
-own_first drives tables own t u stands leaf = (((own.own u stands).leaves (root t)).0 leaf).1
+-- A leaf as far ahead as the table is a pin.
+own_first : (base : ℕ) (drives : List Drive) (tables : List Table) → IsOwnMappingFrom base drives tables → (t u : Table) → Contains tables t → Contains tables u
+    → Contains u.leaves (root t) → Contains (pins_of (drive_in drives u.gate)) t.gate
+own_first base drives tables own t u first stands leaf =
+    let (p, pin, is) = ((own.own u stands).leaves (root t)).0 leaf in
+    let ahead : (behind_latches drives base p).advance ≡ base = ap (λ (n : Node). n.advance) is ∙ (own.own t first).lag in
+    let same : p ≡ t.gate = ap (λ (n : Node). n.signal) (sym (behind_same drives base p ahead) ∙ is) in
+    subst (λ q. Contains (pins_of (drive_in drives u.gate)) q) same pin
 
-own_chain : (drives : List Drive) (tables : List Table) → IsOwnMapping drives tables → (chain : List Table) → IsChain tables chain
+own_chain : (base : ℕ) (drives : List Drive) (tables : List Table) → IsOwnMappingFrom base drives tables → (chain : List Table) → IsChain tables chain
     → IsGateChain drives (map (λ (t : Table). t.gate) chain)
-own_chain drives tables own [] chain = tt
-own_chain drives tables own (t ∷ []) chain = ((own.gates t.gate).1 (t, chain.0, refl), tt, tt)
-own_chain drives tables own (t ∷ u ∷ rest) chain =
-    ((own.gates t.gate).1 (t, chain.0, refl), own_first drives tables own t u chain.2.0 chain.1, own_chain drives tables own (u ∷ rest) chain.2)
+own_chain base drives tables own [] chain = tt
+own_chain base drives tables own (t ∷ []) chain = ((own.gates t.gate).1 (t, chain.0, refl), tt, tt)
+own_chain base drives tables own (t ∷ u ∷ rest) chain =
+    ((own.gates t.gate).1 (t, chain.0, refl), own_first base drives tables own t u chain.0 chain.2.0 chain.1, own_chain base drives tables own (u ∷ rest) chain.2)
 
-own_within : (c : Plain) (tables : List Table) (p : ℕ) → IsOwnMapping c.drives tables → IsPeriod c p → HasChainsWithin tables p
-own_within c tables p own period chain is =
+own_within : (base : ℕ) (c : Plain) (tables : List Table) (p : ℕ) → IsOwnMappingFrom base c.drives tables → IsPeriod c p → HasChainsWithin tables p
+own_within base c tables p own period chain is =
     let long = length-map chain (λ (t : Table). t.gate) in
-    let short = period.greatest (map (λ (t : Table). t.gate) chain) (own_chain c.drives tables own chain is) in
+    let short = period.greatest (map (λ (t : Table). t.gate) chain) (own_chain base c.drives tables own chain is) in
     omega (arith, long, short)
 
 -- ---- there is such a mapping
 
--- The leaves for the pins below a number.
-record HasPinsBelow (pins : List ℕ) (n : ℕ) (leaves : List Node) : Type 0 where
-  ascending : AllPairs IsBefore leaves
-  only : (x : Node) → Contains leaves x → (x.advance ≡ 0) × Contains pins x.signal × (x.signal < n)
-  all : (p : ℕ) → Contains pins p → p < n → Contains leaves (node_at 0 p)
-
-leaves_below : (pins : List ℕ) (n : ℕ) → (leaves : List Node) × HasPinsBelow pins n leaves
-leaves_below pins zero = ([], record { ascending = λ i j e before inside. absurd (omega arith); only = λ x none. absurd (contains-none x none); all = λ p stands low. absurd (omega arith) })
-leaves_below pins (suc n) =
-    let less = leaves_below pins n in
-    let has = less.1 in
-    elim (stands_or_not pins n) [
-      | inr never ↦ (
-        less.0,
-        record {
-          ascending = has.ascending;
-          only = λ x leaf. let is = has.only x leaf in (is.0, is.1, let low = is.2 in omega arith);
-          all = λ p stands low. has.all p stands (below_or p stands low never);
-        },
-      )
-      | inl pin ↦ (
-        less.0 ++ node_at 0 n ∷ [],
-        record {
-          ascending = pairs-push IsBefore less.0 (node_at 0 n) has.ascending (λ x leaf. inl (has.only x leaf).2);
-          only = λ x leaf. elim (Contains-push_cases less.0 (node_at 0 n) x leaf) [
-            | inl earlier ↦ let is = has.only x earlier in (is.0, is.1, let low = is.2 in omega arith)
-            | inr is ↦ subst (λ (y : Node). (y.advance ≡ 0) × Contains pins y.signal × (y.signal < suc n)) is (refl, pin, omega arith)
-          ];
-          all = λ p stands low. elim (cases_lt p n) [
-            | inl lower ↦ Contains-append_left less.0 (node_at 0 n ∷ []) (node_at 0 p) (has.all p stands lower)
-            | inr high ↦ let e : n ≡ p = omega arith in subst (λ q. Contains (less.0 ++ node_at 0 n ∷ []) (node_at 0 q)) e (Contains-push less.0 (node_at 0 n))
-          ];
-        },
-      )
-    ]
-  where
-    below_or : (p : ℕ) → Contains pins p → p < suc n → (¬ Contains pins n) → p < n
-    below_or p stands low never = elim (cases_lt p n) [ inl lower ↦ lower | inr high ↦ let e : p ≡ n = omega arith in absurd (never (subst (λ q. Contains pins q) e stands)) ]
-
-own_table : (pins : List ℕ) (n g : ℕ) → ((p : ℕ) → Contains pins p → p < n) → (t : Table) × (t.gate ≡ g) × IsOwnTable pins t
-own_table pins n g below =
-    let made = leaves_below pins n in
-    let has = made.1 in (
-      record { gate = g; lag = 0; leaves = made.0 },
+own_table : (base : ℕ) (drives : List Drive) (pins : List ℕ) (g : ℕ) → (t : Table) × (t.gate ≡ g) × IsOwnTableFrom base drives pins t
+own_table base drives pins g =
+    let end : ℕ → Node = λ p. behind_latches drives base p in
+    let made = in_order (map end pins) in (
+      record { gate = g; lag = base; leaves = made.0 },
       refl,
       record {
         lag = refl;
-        ascending = has.ascending;
+        ascending = made.1;
         leaves = λ x. (
-          (λ leaf. let is = has.only x leaf in (is.0, is.1)),
-          (λ is. subst (λ (y : Node). Contains made.0 y) (same_node (node_at 0 x.signal) x refl (sym is.0)) (has.all x.signal is.1 (below x.signal is.1))),
+          (λ leaf. contains-unmap end pins x ((made.2 x).0 leaf)),
+          (λ (p, pin, is). (made.2 x).1 (subst (λ (y : Node). Contains (map end pins) y) is (contains-map end pins p pin))),
         );
       },
     )
 
 -- The tables of the gates below a number.
-record HasGatesBelow (drives : List Drive) (n : ℕ) (tables : List Table) : Type 0 where
+record HasGatesBelow (base : ℕ) (drives : List Drive) (n : ℕ) (tables : List Table) : Type 0 where
   ascending : AllPairs (λ t u. t.gate < u.gate) tables
   gates : (t : Table) → Contains tables t → IsGate drives t.gate × (t.gate < n)
   all : (g : ℕ) → IsGate drives g → g < n → (t : Table) × Contains tables t × (t.gate ≡ g)
-  own : (t : Table) → Contains tables t → IsOwnTable (pins_of (drive_in drives t.gate)) t
+  own : (t : Table) → Contains tables t → IsOwnTableFrom base drives (pins_of (drive_in drives t.gate)) t
 
-no_gates : (drives : List Drive) → HasGatesBelow drives 0 []
-no_gates drives = record { ascending = λ i j e before inside. absurd (omega arith); gates = λ t none. absurd (contains-none t none); all = λ g is low. absurd (omega arith); own = λ t none. absurd (contains-none t none) }
+no_gates : (base : ℕ) (drives : List Drive) → HasGatesBelow base drives 0 []
+no_gates base drives = record { ascending = λ i j e before inside. absurd (omega arith); gates = λ t none. absurd (contains-none t none); all = λ g is low. absurd (omega arith); own = λ t none. absurd (contains-none t none) }
 
-other_more : (drives : List Drive) (n : ℕ) (tables : List Table) → HasGatesBelow drives n tables → (IsGate drives n → ⊥) → HasGatesBelow drives (suc n) tables
-other_more drives n tables has none = record {
+other_more : (base : ℕ) (drives : List Drive) (n : ℕ) (tables : List Table) → HasGatesBelow base drives n tables → (IsGate drives n → ⊥) → HasGatesBelow base drives (suc n) tables
+other_more base drives n tables has none = record {
   ascending = has.ascending;
   gates = λ t stands. let is = has.gates t stands in (is.0, let low = is.1 in omega arith);
   all = λ g is low. elim (cases_lt g n) [ inl lower ↦ has.all g is lower | inr high ↦ let e : g ≡ n = omega arith in absurd (none (subst (λ s. IsGate drives s) e is)) ];
   own = has.own;
 }
 
-gate_more : (drives : List Drive) (n : ℕ) (tables : List Table) (t : Table) → HasGatesBelow drives n tables → IsGate drives n → t.gate ≡ n
-    → IsOwnTable (pins_of (drive_in drives n)) t → HasGatesBelow drives (suc n) (tables ++ t ∷ [])
-gate_more drives n tables t has is named table = record {
+gate_more : (base : ℕ) (drives : List Drive) (n : ℕ) (tables : List Table) (t : Table) → HasGatesBelow base drives n tables → IsGate drives n → t.gate ≡ n
+    → IsOwnTableFrom base drives (pins_of (drive_in drives n)) t → HasGatesBelow base drives (suc n) (tables ++ t ∷ [])
+gate_more base drives n tables t has is named table = record {
   ascending = pairs-push (λ (x : Table) (y : Table). x.gate < y.gate) tables t has.ascending (λ u stands. let low = (has.gates u stands).1 in omega arith);
   gates = λ u stands. elim (Contains-push_cases tables t u stands) [
     | inl earlier ↦ let of = has.gates u earlier in (of.0, let low = of.1 in omega arith)
@@ -239,26 +245,26 @@ gate_more drives n tables t has is named table = record {
   ];
   own = λ u stands. elim (Contains-push_cases tables t u stands) [
     | inl earlier ↦ has.own u earlier
-    | inr same ↦ subst (λ (v : Table). IsOwnTable (pins_of (drive_in drives v.gate)) v) same (subst (λ s. IsOwnTable (pins_of (drive_in drives s)) t) (sym named) table)
+    | inr same ↦ subst (λ (v : Table). IsOwnTableFrom base drives (pins_of (drive_in drives v.gate)) v) same (subst (λ s. IsOwnTableFrom base drives (pins_of (drive_in drives s)) t) (sym named) table)
   ];
 }
 
-gates_below : (c : Plain) → IsSound c → (n : ℕ) → (tables : List Table) × HasGatesBelow c.drives n tables
-gates_below c sound zero = ([], no_gates c.drives)
-gates_below c sound (suc n) =
-    let less = gates_below c sound n in
+gates_below : (base : ℕ) (c : Plain) (n : ℕ) → (tables : List Table) × HasGatesBelow base c.drives n tables
+gates_below base c zero = ([], no_gates base c.drives)
+gates_below base c (suc n) =
+    let less = gates_below base c n in
     by_test (is_gate (drive_in c.drives n)) refl less
   where
-    by_test : (b : Bool) → is_gate (drive_in c.drives n) ≡ b → (tables : List Table) × HasGatesBelow c.drives n tables
-        → (tables : List Table) × HasGatesBelow c.drives (suc n) tables
-    by_test false is less = (less.0, other_more c.drives n less.0 less.1 (λ gate. cc))
+    by_test : (b : Bool) → is_gate (drive_in c.drives n) ≡ b → (tables : List Table) × HasGatesBelow base c.drives n tables
+        → (tables : List Table) × HasGatesBelow base c.drives (suc n) tables
+    by_test false is less = (less.0, other_more base c.drives n less.0 less.1 (λ gate. cc))
     by_test true is less =
-        let t = own_table (pins_of (drive_in c.drives n)) (length c.drives) n (pins_within c sound n is) in
-        (less.0 ++ t.0 ∷ [], gate_more c.drives n less.0 t.0 less.1 is t.1 t.2)
+        let t = own_table base c.drives (pins_of (drive_in c.drives n)) n in
+        (less.0 ++ t.0 ∷ [], gate_more base c.drives n less.0 t.0 less.1 is t.1 t.2)
 
-own_some : (c : Plain) → IsSound c → (tables : List Table) × IsOwnMapping c.drives tables
-own_some c sound =
-    let all = gates_below c sound (length c.drives) in
+own_some : (base : ℕ) (c : Plain) → (tables : List Table) × IsOwnMappingFrom base c.drives tables
+own_some base c =
+    let all = gates_below base c (length c.drives) in
     let has = all.1 in (
       all.0,
       record {
@@ -271,9 +277,54 @@ own_some c sound =
       },
     )
 
-pub own_serve : (c : Plain) (k d : ℕ) → IsSound c → widest c.drives ≤ k → OwnTablesServe c k d
-own_serve c k d sound narrow = record {
-  some = own_some c sound;
-  lawful = own_lawful c k d sound narrow;
-  within = own_within c;
+pub own_serve_from : (base : ℕ) (need : ℕ → ℕ) (c : Plain) (k d : ℕ) → IsSound c → base ≤ d → NeedAtMost base need c → widest c.drives ≤ k
+    → OwnTablesServeFrom base need c k d
+own_serve_from base need c k d sound near needs narrow = record {
+  some = own_some base c;
+  lawful = own_lawful base need c k d sound near needs narrow;
+  within = own_within base c;
 }
+
+-- ---- at base 0
+
+at_zero : (drives : List Drive) (tables : List Table) → IsOwnMapping drives tables → IsOwnMappingFrom 0 drives tables
+at_zero drives tables own = record {
+  ascending = own.ascending;
+  gates = own.gates;
+  own = λ t stands.
+      let table = own.own t stands in
+      record {
+        lag = table.lag;
+        ascending = table.ascending;
+        leaves = λ x. (
+          (λ leaf. let is = (table.leaves x).0 leaf in (x.signal, is.1, same_node (node_at 0 x.signal) x refl (sym is.0))),
+          (λ (p, pin, is). subst (λ (y : Node). Contains t.leaves y) is ((table.leaves (node_at 0 p)).1 (refl, pin))),
+        );
+      };
+}
+
+from_zero : (drives : List Drive) (tables : List Table) → IsOwnMappingFrom 0 drives tables → IsOwnMapping drives tables
+from_zero drives tables own = record {
+  ascending = own.ascending;
+  gates = own.gates;
+  own = λ t stands.
+      let table = own.own t stands in
+      let pins = pins_of (drive_in drives t.gate) in
+      record {
+        lag = table.lag;
+        ascending = table.ascending;
+        leaves = λ x. (
+          (λ leaf. let (p, pin, is) = (table.leaves x).0 leaf in subst (λ (y : Node). (y.advance ≡ 0) × Contains pins y.signal) is (refl, pin)),
+          (λ is. (table.leaves x).1 (x.signal, is.1, same_node (node_at 0 x.signal) x refl (sym is.0))),
+        );
+      };
+}
+
+pub own_serve : (c : Plain) (k d : ℕ) → IsSound c → widest c.drives ≤ k → OwnTablesServe c k d
+own_serve c k d sound narrow =
+    let serve = own_serve_from 0 (λ _. 0) c k d sound (omega arith) (λ s stands. omega arith) narrow in
+    record {
+      some = (serve.some.0, from_zero c.drives serve.some.0 serve.some.1);
+      lawful = λ tables own. serve.lawful tables (at_zero c.drives tables own);
+      within = λ tables p own. serve.within tables p (at_zero c.drives tables own);
+    }

@@ -7,17 +7,19 @@ use Rattle.std.proofs.lemmas.Bool.{false≢true}
 use Rattle.std.proofs.lemmas.Bool.Decides.{Decides-or, Decides-and, Decides-like, Decides-eqb}
 use Rattle.std.proofs.lemmas.List.{take_more, map-append, length_push}
 use Rattle.std.proofs.lemmas.List.Elements.{Contains-push, Contains-push_cases, Contains-append_left, Contains-append_right, Contains-append_cases}
-use Rattle.tm_circuit.specs.Plain.{Drive, input, latch, gate, drive_in, is_gate}
+use Rattle.tm_circuit.specs.Plain.{Plain, Drive, input, latch, gate, drive_in, is_gate}
 use Rattle.tm_circuit.specs.Chain.{IsGate}
+use Rattle.tm_circuit.specs.Sound.{IsSound}
 use Rattle.tm_circuit.proofs.ListLemmas.{contains-first, contains-rest, contains-cases, contains-none}
 use Rattle.tm_unroll.specs.declared.node.Node.{Node}
 use Rattle.tm_unroll.specs.declared.cover.Search.{Search}
 use Rattle.tm_unroll.specs.Nodes.{node_at, reads_of, reads, is_end_of, is_end}
 use Rattle.tm_unroll.specs.Walks.{IsWalk, IsReached, MeetsLeaf, Covers}
-use Rattle.tm_unroll.specs.Searches.{met_by, left_by, Meets, HasMetReads, IsStart, IsSearch, IsBeforeLeaves, TakesUp, IsSearchedOut}
+use Rattle.tm_unroll.specs.Searches.{met_by, left_by, MeetsMore, HasMetReads, IsStart, IsSearch, IsBeforeLeaves, TakesUp, IsLowestMissing, HasGoneDownTo}
 use Rattle.tm_unroll.proofs.ListLemmas.{pairs-push}
 use Rattle.tm_unroll.proofs.ReadLemmas.{same_node}
-use Rattle.tm_unroll.proofs.CoverLemmas.{leads_further, closed_reaches, IsFree, free_first, free_more, free_end_refutes}
+use Rattle.tm_unroll.proofs.FloorLemmas.{reaches_down}
+use Rattle.tm_unroll.proofs.CoverLemmas.{leads_further, IsFree, free_first, free_more, free_end_refutes}
 use Rattle.tm_unroll.proofs.JudgeLemmas.{gate_within}
 
 -- Nodes are equal where their parts are.
@@ -50,7 +52,7 @@ only_one : (x y : Node) → Contains (x ∷ []) y → x ≡ y
 only_one x y stands = elim (contains-cases x [] y stands) [ inl is ↦ is | inr none ↦ absurd (contains-none y none) ]
 
 -- A search meets no node.
-pub meets_none : (s : Search) → Meets [] s s
+pub meets_none : (s : Search) → MeetsMore [] s s
 meets_none s = record {
   root = refl;
   kept = λ x h. h;
@@ -65,7 +67,7 @@ meets_none s = record {
 
 -- A search meets a node that it had not met.
 meets_new : (old new : Search) (x : Node) → new.root ≡ old.root → met_by new ≡ met_by old ++ x ∷ [] → left_by new ≡ left_by old ++ x ∷ []
-    → ¬ Contains (met_by old) x → Meets (x ∷ []) old new
+    → ¬ Contains (met_by old) x → MeetsMore (x ∷ []) old new
 meets_new old new x root met left other = record {
   root = root;
   kept = λ y h. subst (λ (l : List Node). Contains l y) (sym met) (Contains-append_left (met_by old) (x ∷ []) y h);
@@ -83,7 +85,7 @@ meets_new old new x root met left other = record {
 }
 
 -- A search meets a node that it had met before.
-meets_again : (old new : Search) (x : Node) → new.root ≡ old.root → met_by new ≡ met_by old → left_by new ≡ left_by old → Contains (met_by old) x → Meets (x ∷ []) old new
+meets_again : (old new : Search) (x : Node) → new.root ≡ old.root → met_by new ≡ met_by old → left_by new ≡ left_by old → Contains (met_by old) x → MeetsMore (x ∷ []) old new
 meets_again old new x root met left there = record {
   root = root;
   kept = λ y h. subst (λ (l : List Node). Contains l y) (sym met) h;
@@ -107,21 +109,21 @@ not_not false h = cc
 module _ (old new : Search) (x : Node) (test : Node → Bool) (is_new : Bool) (each : (y : Node) → Decides (test y) (x ≡ y)) (root : new.root ≡ old.root)
     (added : is_new ≡ not (list_any test (met_by old))) (keys : met_by new ≡ cond (list_any test (met_by old)) (met_by old) (met_by old ++ x ∷ [])) where
   -- What a set adds and the stack takes is met.
-  pub met_new : is_new ≡ true → left_by new ≡ left_by old ++ x ∷ [] → Meets (x ∷ []) old new
+  pub met_new : is_new ≡ true → left_by new ≡ left_by old ++ x ∷ [] → MeetsMore (x ∷ []) old new
   met_new added' left =
       let none : list_any test (met_by old) ≡ false = not_yes (list_any test (met_by old)) (sym added ∙ added') in
       meets_new old new x root (keys ∙ ap (λ b. cond b (met_by old) (met_by old ++ x ∷ [])) none) left
       (λ stands. false≢true (sym none ∙ (found_by x test each (met_by old)).1 stands))
 
   -- What a set does not add had been met.
-  pub met_again : is_new ≡ false → left_by new ≡ left_by old → Meets (x ∷ []) old new
+  pub met_again : is_new ≡ false → left_by new ≡ left_by old → MeetsMore (x ∷ []) old new
   met_again kept left =
       let any : list_any test (met_by old) ≡ true = not_not (list_any test (met_by old)) (sym added ∙ kept) in
       meets_again old new x root (keys ∙ ap (λ b. cond b (met_by old) (met_by old ++ x ∷ [])) any) left
       ((found_by x test each (met_by old)).0 any)
 
 -- A search meets nodes one after another.
-pub meets_more : (old mid new : Search) (xs ys : List Node) → Meets xs old mid → Meets ys mid new → Meets (xs ++ ys) old new
+pub meets_more : (old mid new : Search) (xs ys : List Node) → MeetsMore xs old mid → MeetsMore ys mid new → MeetsMore (xs ++ ys) old new
 meets_more old mid new xs ys m n = record {
   root = n.root ∙ m.root;
   kept = λ x h. n.kept x (m.kept x h);
@@ -141,27 +143,27 @@ meets_more old mid new xs ys m n = record {
 }
 
 -- A search meets one pin more.
-pub pins_more : (old mid new : Search) (pins : List ℕ) (a i p : ℕ) → Meets (map (λ q. node_at a q) (take i pins)) old mid → i < length pins → p ≡ get_or pins i p
-    → Meets (node_at a p ∷ []) mid new → Meets (map (λ q. node_at a q) (take (i + 1) pins)) old new
+pub pins_more : (old mid new : Search) (pins : List ℕ) (a i p : ℕ) → MeetsMore (map (λ q. node_at a q) (take i pins)) old mid → i < length pins → p ≡ get_or pins i p
+    → MeetsMore (node_at a p ∷ []) mid new → MeetsMore (map (λ q. node_at a q) (take (i + 1) pins)) old new
 pins_more old mid new pins a i p m within is n =
     let more : take (i + 1) pins ≡ take i pins ++ p ∷ [] = take_more pins i p within ∙ ap (λ v. take i pins ++ v ∷ []) (sym is) in
     let nodes : map (λ q. node_at a q) (take (i + 1) pins) ≡ map (λ q. node_at a q) (take i pins) ++ node_at a p ∷ [] = ap (λ l. map (λ q. node_at a q) l) more ∙ map-append (λ q. node_at a q) (take i pins) (p ∷ []) in
-    subst (λ (l : List Node). Meets l old new) (sym nodes) (meets_more old mid new (map (λ q. node_at a q) (take i pins)) (node_at a p ∷ []) m n)
+    subst (λ (l : List Node). MeetsMore l old new) (sym nodes) (meets_more old mid new (map (λ q. node_at a q) (take i pins)) (node_at a p ∷ []) m n)
 
 -- What a node reads goes by the drive of its signal.
-pub reads_by : (drives : List Drive) (x : Node) (d : Drive) (old new : Search) → drive_in drives x.signal ≡ d → Meets (reads_of d x.advance) old new → Meets (reads drives x) old new
-reads_by drives x d old new is m = subst (λ e. Meets (reads_of e x.advance) old new) (sym is) m
+pub reads_by : (drives : List Drive) (x : Node) (d : Drive) (old new : Search) → drive_in drives x.signal ≡ d → MeetsMore (reads_of d x.advance) old new → MeetsMore (reads drives x) old new
+reads_by drives x d old new is m = subst (λ e. MeetsMore (reads_of e x.advance) old new) (sym is) m
 
 -- A latch with no advance to spend reads nothing.
-pub reads_by_end : (drives : List Drive) (x : Node) (next : ℕ) (init : Bool) (s : Search) → drive_in drives x.signal ≡ latch next init → x.advance ≡ 0 → Meets (reads drives x) s s
+pub reads_by_end : (drives : List Drive) (x : Node) (next : ℕ) (init : Bool) (s : Search) → drive_in drives x.signal ≡ latch next init → x.advance ≡ 0 → MeetsMore (reads drives x) s s
 reads_by_end drives x next init s is low =
-    reads_by drives x (latch next init) s s is (subst (λ a. Meets (reads_of (latch next init) a) s s) (sym low) (meets_none s))
+    reads_by drives x (latch next init) s s is (subst (λ a. MeetsMore (reads_of (latch next init) a) s s) (sym low) (meets_none s))
 
 -- A latch with an advance to spend reads its next.
 pub reads_by_next : (drives : List Drive) (x : Node) (next : ℕ) (init : Bool) (old new : Search) → drive_in drives x.signal ≡ latch next init → x.advance ≢ 0
-    → Meets (node_at (x.advance - 1) next ∷ []) old new → Meets (reads drives x) old new
+    → MeetsMore (node_at (x.advance - 1) next ∷ []) old new → MeetsMore (reads drives x) old new
 reads_by_next drives x next init old new is high m =
-    reads_by drives x (latch next init) old new is (subst (λ (l : List Node). Meets l old new) (sym (next_read x.advance high)) m)
+    reads_by drives x (latch next init) old new is (subst (λ (l : List Node). MeetsMore l old new) (sym (next_read x.advance high)) m)
   where
     next_read : (a : ℕ) → a ≢ 0 → reads_of (latch next init) a ≡ node_at (a - 1) next ∷ []
     next_read zero high' = absurd (high' refl)
@@ -173,7 +175,7 @@ gate_goes_on (latch next init) a is = cc
 gate_goes_on (gate pins cover) a is = refl
 
 -- A search begins with what its root reads.
-pub started : (drives : List Drive) (old new : Search) → IsGate drives old.root.signal → met_by old ≡ [] → left_by old ≡ [] → Meets (reads drives old.root) old new
+pub started : (drives : List Drive) (old new : Search) → IsGate drives old.root.signal → met_by old ≡ [] → left_by old ≡ [] → MeetsMore (reads drives old.root) old new
     → IsStart drives new
 started drives old new is none empty m = record {
   root = subst (λ (r : Node). r.signal < length drives) (sym m.root) (gate_within drives old.root.signal is);
@@ -202,10 +204,10 @@ pub record IsGoingBefore (drives : List Drive) (leaves : List Node) (s : Search)
   pub done : (x : Node) → Contains (met_by s) x
       → Contains (left_by s) x ⊎ (Contains leaves x ⊎ ((is_end drives x ≡ false) × HasMetReads drives s x))
 
--- A search under way behind the leaves.
-pub record IsGoingBehind (drives : List Drive) (s : Search) : Type 0 where
+-- A search under way behind the leaves, which goes through the nodes that are above a floor.
+pub record IsGoingBehind (drives : List Drive) (above : Node → Type 0) (s : Search) : Type 0 where
   pub search : IsSearch drives s
-  pub done : (x : Node) → Contains (met_by s) x → Contains (left_by s) x ⊎ HasMetReads drives s x
+  pub done : (x : Node) → Contains (met_by s) x → Contains (left_by s) x ⊎ (above x → HasMetReads drives s x)
 
 -- A search begins before the leaves.
 pub before_starts : (drives : List Drive) (leaves : List Node) (s : Search) → IsStart drives s → IsGoingBefore drives leaves s
@@ -228,7 +230,7 @@ module _ (drives : List Drive) (s p : Search) (x : Node) (search : IsSearch driv
   popped_met = search.left x (subst (λ (l : List Node). Contains l x) (sym pops.left) (Contains-push (left_by p) x))
 
   -- It goes on from there by what the node reads.
-  module _ (n : Search) (nodes : List Node) (some : (y : Node) → Contains nodes y → Contains (reads drives x) y) (m : Meets nodes p n) where
+  module _ (n : Search) (nodes : List Node) (some : (y : Node) → Contains nodes y → Contains (reads drives x) y) (m : MeetsMore nodes p n) where
     same_root : n.root ≡ s.root
     same_root = m.root ∙ pops.root
 
@@ -269,17 +271,17 @@ module _ (drives : List Drive) (s p : Search) (x : Node) (search : IsSearch driv
     }
 
     -- A turn behind the leaves.
-    pub behind_turns : IsGoingBehind drives s → ((y : Node) → Contains (reads drives x) y → Contains nodes y) → IsGoingBehind drives n
-    behind_turns going all = record {
+    pub behind_turns : (above : Node → Type 0) → IsGoingBehind drives above s → (above x → (y : Node) → Contains (reads drives x) y → Contains nodes y) → IsGoingBehind drives above n
+    behind_turns above going all = record {
       search = searches_on;
       done = λ y h. elim (now_met y h) [
         | inl waits ↦ inl waits
         | inr before ↦ elim (going.done y before) [
           | inl left ↦ elim (still_left y left) [
             | inl waits ↦ inl waits
-            | inr is ↦ inr (λ z read. m.met z (all z (subst (λ (v : Node). Contains (reads drives v) z) (sym is) read)))
+            | inr is ↦ inr (λ up z read. m.met z (all (subst (λ (v : Node). above v) (sym is) up) z (subst (λ (v : Node). Contains (reads drives v) z) (sym is) read)))
           ]
-          | inr gone ↦ inr (keeps_reads y gone)
+          | inr gone ↦ inr (λ up. keeps_reads y (gone up))
         ]
       ];
     }
@@ -324,7 +326,7 @@ before_leaf drives leaves s p x going pops leaf =
 
 -- A node that is no leaf and no end is gone through.
 pub before_goes : (drives : List Drive) (leaves : List Node) (s p n : Search) (x : Node) → IsGoingBefore drives leaves s → Pops x s p → ¬ Contains leaves x → is_end drives x ≡ false
-    → Meets (reads drives x) p n → IsGoingBefore drives leaves n
+    → MeetsMore (reads drives x) p n → IsGoingBefore drives leaves n
 before_goes drives leaves s p n x going pops other goes m =
     before_turns drives s p x going.search pops n (reads drives x) (λ y read. read) m leaves going (inr (goes, λ y read. read)) (λ leaf y read. other leaf) (inr other)
 
@@ -334,10 +336,16 @@ pub before_ends : (drives : List Drive) (leaves : List Node) (s p : Search) (x :
 before_ends drives leaves s p x going pops other stops =
     free_end_refutes drives leaves s.root x (going.free x (popped_met drives s p x going.search pops) other) stops
 
--- Behind the leaves each node is gone through.
-pub behind_goes : (drives : List Drive) (s p n : Search) (x : Node) → IsGoingBehind drives s → Pops x s p → Meets (reads drives x) p n → IsGoingBehind drives n
-behind_goes drives s p n x going pops m =
-    behind_turns drives s p x going.search pops n (reads drives x) (λ y read. read) m going (λ y read. read)
+-- Behind the leaves a node is gone through.
+pub behind_goes : (drives : List Drive) (above : Node → Type 0) (s p n : Search) (x : Node) → IsGoingBehind drives above s → Pops x s p → MeetsMore (reads drives x) p n
+    → IsGoingBehind drives above n
+behind_goes drives above s p n x going pops m =
+    behind_turns drives s p x going.search pops n (reads drives x) (λ y read. read) m above going (λ up y read. read)
+
+-- A node that is not above the floor is passed over.
+pub behind_skips : (drives : List Drive) (above : Node → Type 0) (s p : Search) (x : Node) → IsGoingBehind drives above s → Pops x s p → ¬ above x → IsGoingBehind drives above p
+behind_skips drives above s p x going pops not =
+    behind_turns drives s p x going.search pops p [] (λ y none. absurd (contains-none y none)) (meets_none p) above going (λ up. absurd (not up))
 
 -- A search with other nodes left, all of them met.
 search_same : (drives : List Drive) (s p : Search) → p.root ≡ s.root → met_by p ≡ met_by s → ((x : Node) → Contains (left_by p) x → Contains (met_by s) x) → IsSearch drives s → IsSearch drives p
@@ -380,20 +388,21 @@ module _ (drives : List Drive) (s p : Search) (root : p.root ≡ s.root) (met : 
           ]
 
   -- Behind the leaves the search ends where nothing is left.
-  pub behind_done : IsGoingBehind drives s → IsSearchedOut drives p
-  behind_done going = record {
-    search = search_same drives s p root met none_left going.search;
-    closed = λ x h. elim (going.done x (was_met x h)) [
+  pub behind_done : (above : Node → Type 0) → IsGoingBehind drives above s → IsSearch drives p × ((x : Node) → Contains (met_by p) x → above x → HasMetReads drives p x)
+  behind_done above going = (
+    search_same drives s p root met none_left going.search,
+    λ x h up. elim (going.done x (was_met x h)) [
       | inl left ↦ absurd (contains-none x (subst (λ (l : List Node). Contains l x) empty left))
-      | inr more ↦ λ y read. is_met y (more y read)
-    ];
-  }
+      | inr more ↦ λ y read. is_met y (more up y read)
+    ],
+  )
 
 -- The leaves that were met are taken up.
-pub behind_starts : (drives : List Drive) (leaves : List Node) (old new : Search) → IsBeforeLeaves drives leaves old → TakesUp leaves old new → IsGoingBehind drives new
-behind_starts drives leaves old new before takes = record {
+pub behind_starts : (drives : List Drive) (above : Node → Type 0) (leaves : List Node) (old new : Search) → IsBeforeLeaves drives leaves old → TakesUp leaves old new
+    → IsGoingBehind drives above new
+behind_starts drives above leaves old new before takes = record {
   search = search_same drives old new takes.root takes.met (λ x h. elim (takes.left x h) [ inl left ↦ before.search.left x left | inr met ↦ met ]) before.search;
-  done = λ x h. elim (before.gone x (was x h)) [ inl leaf ↦ inl (takes.taken x leaf (was x h)) | inr gone ↦ inr (λ y read. keeps y (gone y read)) ];
+  done = λ x h. elim (before.gone x (was x h)) [ inl leaf ↦ inl (takes.taken x leaf (was x h)) | inr gone ↦ inr (λ up y read. keeps y (gone y read)) ];
 }
   where
     keeps : (x : Node) → Contains (met_by old) x → Contains (met_by new) x
@@ -406,19 +415,25 @@ behind_starts drives leaves old new before takes = record {
 pub covers_before : (drives : List Drive) (leaves : List Node) (s : Search) → IsBeforeLeaves drives leaves s → ((x : Node) → Contains leaves x → Contains (met_by s) x) → Covers drives leaves s.root
 covers_before drives leaves s before all = record { met = before.guarded; reached = λ y leaf. before.search.reached y (all y leaf) }
 
--- Where a search is out the leaves cover the root exactly where all are met.
-pub covers_out : (drives : List Drive) (leaves : List Node) (old s : Search) → IsBeforeLeaves drives leaves old → IsSearchedOut drives s → s.root ≡ old.root
-    → ((x : Node) → Contains leaves x → Contains (met_by s) x) → Covers drives leaves old.root
-covers_out drives leaves old s before out root all = record {
+-- Where a search has gone down to the lowest missing leaf the leaves cover the root exactly where all are met.
+covers_out : (c : Plain) (floor : Node) (leaves : List Node) (old s : Search) → IsBeforeLeaves c.drives leaves old → HasGoneDownTo c floor old s
+    → ((x : Node) → Contains leaves x → Contains (met_by s) x) → Covers c.drives leaves old.root
+covers_out c floor leaves old s before out all = record {
   met = before.guarded;
-  reached = λ y leaf. subst (λ (r : Node). IsReached drives r y) root (out.search.reached y (all y leaf));
+  reached = λ y leaf. subst (λ (r : Node). IsReached c.drives r y) out.root (out.search.reached y (all y leaf));
 }
 
-pub covered_out : (drives : List Drive) (leaves : List Node) (old s : Search) → IsSearchedOut drives s → s.root ≡ old.root → Covers drives leaves old.root
-    → (x : Node) → Contains leaves x → Contains (met_by s) x
-covered_out drives leaves old s out root covers x leaf =
-    let way = covers.reached x leaf in
-    closed_reaches drives (met_by s) old.root (λ y read. out.search.first y (subst (λ (r : Node). Contains (reads drives r) y) (sym root) read)) (λ z y met read. out.closed z met y read) x way.0 way.1
+covered_out : (c : Plain) → IsSound c → (floor : Node) (leaves : List Node) (old s : Search) → IsLowestMissing c leaves old floor → HasGoneDownTo c floor old s
+    → Covers c.drives leaves old.root → (x : Node) → Contains leaves x → Contains (met_by s) x
+covered_out c sound floor leaves old s low out covers x leaf = by (list_any (λ (y : Node). node_eq x y) (met_by old)) refl
+  where
+    by : (b : Bool) → list_any (λ (y : Node). node_eq x y) (met_by old) ≡ b → Contains (met_by s) x
+    by true e = out.kept x ((node_found x (met_by old)).0 e)
+    by false e =
+        let way = covers.reached x leaf in
+        let missing : ¬ Contains (met_by old) x = λ h. false≢true (sym e ∙ (node_found x (met_by old)).1 h) in
+        reaches_down c sound floor (met_by s) x (low.lowest x leaf missing) (λ z y met up read. out.closed z met up y read) old.root
+        (λ y read. out.search.first y (subst (λ (r : Node). Contains (reads c.drives r) y) (sym out.root) read)) way.0 way.1
 
 -- The answer where all leaves are met before the leaves.
 pub covers_first : (drives : List Drive) (leaves : List Node) (x : Node) (s : Search) → IsBeforeLeaves drives leaves s → s.root ≡ x
@@ -426,11 +441,13 @@ pub covers_first : (drives : List Drive) (leaves : List Node) (x : Node) (s : Se
 covers_first drives leaves x s before root all = (λ _. subst (λ (r : Node). Covers drives leaves r) root (covers_before drives leaves s before all), λ _. refl)
 
 -- The answer where the search went behind the leaves.
-pub covers_last : (drives : List Drive) (leaves : List Node) (x : Node) (old s : Search) (b : Bool) → IsBeforeLeaves drives leaves old → IsSearchedOut drives s → s.root ≡ old.root
-    → old.root ≡ x → Decides b ((y : Node) → Contains leaves y → Contains (met_by s) y) → Decides b (Covers drives leaves x)
-covers_last drives leaves x old s b before out root from met =
-    subst (λ (r : Node). Decides b (Covers drives leaves r)) from
-    (Decides-like b (λ (all : (y : Node) → Contains leaves y → Contains (met_by s) y). covers_out drives leaves old s before out root all) (λ (covers : Covers drives leaves old.root). covered_out drives leaves old s out root covers) met)
+pub covers_last : (c : Plain) → IsSound c → (floor : Node) (leaves : List Node) (x : Node) (old s : Search) (b : Bool) → IsBeforeLeaves c.drives leaves old
+    → IsLowestMissing c leaves old floor → HasGoneDownTo c floor old s → old.root ≡ x → Decides b ((y : Node) → Contains leaves y → Contains (met_by s) y)
+    → Decides b (Covers c.drives leaves x)
+covers_last c sound floor leaves x old s b before low out from met =
+    subst (λ (r : Node). Decides b (Covers c.drives leaves r)) from
+    (Decides-like b (λ (all : (y : Node) → Contains leaves y → Contains (met_by s) y). covers_out c floor leaves old s before out all)
+    (λ (covers : Covers c.drives leaves old.root). covered_out c sound floor leaves old s low out covers) met)
 
 -- The leaves up to a place are taken up, and one more that was met.
 module _ (leaves : List Node) (i : ℕ) (x : Node) (old mid : Search) (takes : TakesUp (take i leaves) old mid) (within : i < length leaves) (is : x ≡ get_or leaves i x) where

@@ -10,14 +10,14 @@ use Rattle.tm_unroll.specs.Mappings.{Table, root, HasLeaves, AreServed, HasSourc
 
 -- The first test of the table at a place: its gate is a gate, and greater than that of the table just before it, and its
 -- lag is allowed.
-pub record IsPlaced (c : Plain) (d : ℕ) (tables : List Table) (place : ℕ) (t : Table) : Type 0 where
+pub record HasLawfulRoot (c : Plain) (d : ℕ) (tables : List Table) (place : ℕ) (t : Table) : Type 0 where
   pub gate : IsGate c.drives t.gate
   pub after : (before : ℕ) (b : Table) → place ≡ suc before → slice_get tables before ≡ Some b → b.gate < t.gate
   pub lag : t.lag ≤ d
 
 -- The table at a place passes all its tests.
 pub record Passes (base : ℕ) (c : Plain) (k d : ℕ) (tables : List Table) (place : ℕ) (t : Table) : Type 0 where
-  pub placed : IsPlaced c d tables place t
+  pub placed : HasLawfulRoot c d tables place t
   pub leaves : HasLeaves base c.drives k t
   pub covers : Covers c.drives t.leaves (root t)
   pub served : AreServed c.drives tables t.leaves
@@ -29,12 +29,12 @@ PassBelow base c k d tables places =
 
 -- The table at a place fails by a test, after it has passed those before.
 abbrev pub FailsBy : MapWhy → ℕ → Plain → ℕ → ℕ → List Table → ℕ → Table → Type 0
-FailsBy Lag base c k d tables place t = ¬ IsPlaced c d tables place t
-FailsBy Leaves base c k d tables place t = IsPlaced c d tables place t × ¬ HasLeaves base c.drives k t
+FailsBy Lag base c k d tables place t = ¬ HasLawfulRoot c d tables place t
+FailsBy Leaves base c k d tables place t = HasLawfulRoot c d tables place t × ¬ HasLeaves base c.drives k t
 FailsBy Uncovered base c k d tables place t =
-    IsPlaced c d tables place t × HasLeaves base c.drives k t × ¬ Covers c.drives t.leaves (root t)
+    HasLawfulRoot c d tables place t × HasLeaves base c.drives k t × ¬ Covers c.drives t.leaves (root t)
 FailsBy Unserved base c k d tables place t =
-    IsPlaced c d tables place t × HasLeaves base c.drives k t × Covers c.drives t.leaves (root t)
+    HasLawfulRoot c d tables place t × HasLeaves base c.drives k t × Covers c.drives t.leaves (root t)
     × ¬ AreServed c.drives tables t.leaves
 FailsBy Output base c k d tables place t = ⊥
 

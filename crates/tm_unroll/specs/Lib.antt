@@ -5,7 +5,12 @@ pub mod Faults
 pub mod Chains
 pub mod Falls
 pub mod Lags
+pub mod Latches
 pub mod Own
 pub mod Lookups
 pub mod Searches
+pub mod Unrolled
+pub mod NetCuts
+pub mod Replaced
+pub mod Leaves
 pub mod Depths

@@ -1,10 +1,11 @@
 -- Searches from the root of a table along reads, before its leaves and behind them.
-use Rattle.std.specs.Prelude.{◌≡◌, ◌≢◌, ◌⊎◌, ◌+◌, ◌<◌, false, List, [], length, Contains, AllPairs}
-use Rattle.tm_circuit.specs.Plain.{Drive}
+use Rattle.std.specs.Prelude.{◌≡◌, ◌≢◌, ◌⊎◌, ◌+◌, ◌<◌, false, List, [], length, Option, None, Some, Contains, AllPairs}
+use Rattle.tm_circuit.specs.Plain.{Plain, Drive}
 use Rattle.tm_unroll.specs.declared.node.Node.{Node}
 use Rattle.tm_unroll.specs.declared.cover.Search.{Search}
 use Rattle.tm_unroll.specs.Nodes.{reads, is_end}
 use Rattle.tm_unroll.specs.Walks.{IsWalk, IsReached, MeetsLeaf}
+use Rattle.tm_unroll.specs.Falls.{IsLower}
 
 -- The nodes that a search has met.
 abbrev pub met_by : Search → List Node
@@ -15,7 +16,7 @@ abbrev pub left_by : Search → List Node
 left_by s = s.stack.items
 
 -- A search has met some nodes more, and those that it had not met before are left.
-pub record Meets (nodes : List Node) (old new : Search) : Type 0 where
+pub record MeetsMore (nodes : List Node) (old new : Search) : Type 0 where
   pub root : new.root ≡ old.root
   pub kept : (x : Node) → Contains (met_by old) x → Contains (met_by new) x
   pub met : (x : Node) → Contains nodes x → Contains (met_by new) x
@@ -64,7 +65,23 @@ pub record TakesUp (leaves : List Node) (old new : Search) : Type 0 where
   pub taken : (x : Node) → Contains leaves x → Contains (met_by old) x → Contains (left_by new) x
   pub left : (x : Node) → Contains (left_by new) x → Contains (left_by old) x ⊎ Contains (met_by old) x
 
--- A search that has gone through all: what it has met reads nothing that it has not met.
-pub record IsSearchedOut (drives : List Drive) (s : Search) : Type 0 where
-  pub search : IsSearch drives s
-  pub closed : (x : Node) → Contains (met_by s) x → HasMetReads drives s x
+-- The lowest of the leaves that a search has not met, in the pair of advance and rank: no other is lower.
+pub record IsLowestMissing (c : Plain) (leaves : List Node) (s : Search) (floor : Node) : Type 0 where
+  pub leaf : Contains leaves floor
+  pub missing : ¬ Contains (met_by s) floor
+  pub lowest : (x : Node) → Contains leaves x → ¬ Contains (met_by s) x → ¬ IsLower c x floor
+
+-- A search that has gone on from what an earlier one had met, down to a floor: what it has met reads nothing that it has not
+-- met, but for nodes that the floor is not lower than. These can't reach the floor, nor a node that is no lower, since nodes
+-- become lower along reads.
+pub record HasGoneDownTo (c : Plain) (floor : Node) (old new : Search) : Type 0 where
+  pub search : IsSearch c.drives new
+  pub root : new.root ≡ old.root
+  pub kept : (x : Node) → Contains (met_by old) x → Contains (met_by new) x
+  pub closed : (x : Node) → Contains (met_by new) x → IsLower c floor x → HasMetReads c.drives new x
+
+-- The lower of two nodes, where there is a first one.
+abbrev pub IsLowerOf : Plain → Option Node → Node → Node → Type 0
+IsLowerOf c None second lower = lower ≡ second
+IsLowerOf c (Some first) second lower =
+    ((lower ≡ first) × ¬ IsLower c second first) ⊎ ((lower ≡ second) × IsLower c second first)

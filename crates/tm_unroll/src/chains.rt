@@ -3,6 +3,7 @@
 // of the circuit. So the order is gone through once for each lag, and each leaf is looked at once.
 
 ghost use Rattle.std.specs.Prelude.{◌≡◌, suc, ◌<◌, ◌≤◌, [], ◌∷◌, length, map, slice_index, All, AllPairs, IfOk, MatchOption};
+ghost use Rattle.tm_bits.specs.Limits.{most_inputs};
 ghost use Rattle.tm_circuit.specs.Plain.{widest, greatest};
 ghost use Rattle.tm_circuit.specs.Sound.{IsSound};
 ghost use Rattle.tm_unroll.specs.Mappings.{tables_of, IsLawful};
@@ -23,7 +24,7 @@ pub fn chain(
     d: u8,
     mapping: &Mapping,
 ) -> Result<u32, NoMemory>
-    requires few { (2 ≤ k) × (k ≤ 8) }
+    requires few { (2 ≤ k) × (k ≤ most_inputs) }
     requires near { d ≤ 8 }
     requires narrow { widest circuit.now.drives ≤ k }
     requires lawful { IsLawful circuit.now k d (tables_of mapping.now) }

@@ -1,6 +1,8 @@
 // Whether a mapping is lawful.
 
 ghost use Rattle.std.specs.Prelude.{◌≡◌, ℕ, ◌+◌, ◌<◌, ◌≤◌, List, length, map, Some, slice_get, IfOk, MatchOption};
+ghost use Rattle.tm_bits.specs.Limits.{most_inputs};
+ghost use Rattle.tm_circuit.specs.declared.lawful.TheConstants.{MOST_SIGNALS};
 ghost use Rattle.tm_circuit.specs.Plain.{widest};
 ghost use Rattle.tm_circuit.specs.Sound.{IsSound};
 ghost use Rattle.tm_unroll.specs.Mappings.{Table, table_of, tables_of};
@@ -8,7 +10,7 @@ ghost use Rattle.tm_unroll.specs.declared.node.Lut.{Lut as LutValue};
 ghost use Rattle.tm_unroll.specs.Faults.{IsJudged, AreGivenBelow};
 ghost use Rattle.tm_unroll.specs.Lookups.{AreGreatestLags, IsTableJudged, IsFirstMissing};
 
-use crate::cover::covers;
+use crate::cover::{Search, covers};
 use crate::leaves::{has_leaves, is_placed};
 use crate::lookup::{are_served, greatest_lags, has_source_table};
 use crate::node::{Lut, MapWhy, Mapping, MappingFault};
@@ -17,7 +19,8 @@ use tm_bits::NoMemory;
 use tm_circuit::Circuit;
 
 /// `None` where the mapping is lawful for tables of at most `k` leaves and lags of at most `d` steps, else its first fault:
-/// table by table in the order of `MapWhy`, and then the outputs. A table costs at most the nodes that its root reaches.
+/// table by table in the order of `MapWhy`, and then the outputs. A table costs at most the nodes that its root reaches and that
+/// are not below all of its leaves; the memory of one table's search serves the next.
 pub fn lawful(
     alloc: Global,
     circuit: &Circuit,
@@ -25,14 +28,15 @@ pub fn lawful(
     d: u8,
     mapping: &Mapping,
 ) -> Result<Option<MappingFault>, NoMemory>
-    requires few { (2 ≤ k) × (k ≤ 8) }
+    requires few { (2 ≤ k) × (k ≤ most_inputs) }
     requires near { d ≤ 8 }
     requires narrow { widest circuit.now.drives ≤ k }
     ensures { IfOk result (λ answer. IsJudged circuit.now k d (tables_of mapping.now) answer) }
 {
     let lags = greatest_lags(alloc, circuit.signals() as usize, &mapping.luts)?;
+    let mut search = Search::new(alloc);
     for place in 0..mapping.luts.len() {
-        if let Some(why) = judge_table(alloc, circuit, k, d, &mapping.luts, place, &lags)? {
+        if let Some(why) = judge_table(&mut search, circuit, k, d, &mapping.luts, place, &lags)? {
             return Ok(Some(fault_at(place, why)));
         }
     }
@@ -44,7 +48,7 @@ pub fn lawful(
 
 /// The fault of the table or the output at a place. Entries count from 1.
 fn fault_at(place: usize, why: MapWhy) -> MappingFault
-    requires { place ≤ 900000 }
+    requires { place ≤ MOST_SIGNALS }
     ensures { result ≡ record { entry = place + 1; why = why } }
 {
     MappingFault {
@@ -55,7 +59,7 @@ fn fault_at(place: usize, why: MapWhy) -> MappingFault
 
 /// `None` where the table at the place passes its tests, else the first that it fails.
 fn judge_table(
-    alloc: Global,
+    search: &mut Search,
     circuit: &Circuit,
     k: u8,
     d: u8,
@@ -76,7 +80,7 @@ fn judge_table(
     if !has_leaves(circuit, k, lut) {
         return Ok(Some(MapWhy::Leaves));
     }
-    if !covers(alloc, circuit, lut)? {
+    if !covers(search, circuit, lut)? {
         return Ok(Some(MapWhy::Uncovered));
     }
     if !are_served(circuit, lags, lut.leaves.as_slice()) {

@@ -1,7 +1,7 @@
 // Laws of nodes and mappings, over all sound circuits, as every built circuit is: each function does nothing, and its
 // contract is the law.
 
-ghost use Rattle.std.specs.Prelude.{◌≡◌, ℕ, ◌≤◌, List};
+ghost use Rattle.std.specs.Prelude.{◌≡◌, ℕ, ◌-◌, ◌≤◌, List};
 ghost use Rattle.tm_circuit.specs.Plain.{Plain, widest};
 ghost use Rattle.tm_circuit.specs.Sound.{IsSound};
 ghost use Rattle.tm_unroll.specs.Mappings.{Table, IsLawful, IsLawfulFrom};
@@ -9,7 +9,8 @@ ghost use Rattle.tm_unroll.specs.Faults.{HasOneFault};
 ghost use Rattle.tm_unroll.specs.Chains.{IsPeriodOf};
 ghost use Rattle.tm_unroll.specs.Falls.{WalksFall, HasNoRepeats};
 ghost use Rattle.tm_unroll.specs.Lags.{LagsArePaid};
-ghost use Rattle.tm_unroll.specs.Own.{OwnTablesServe};
+ghost use Rattle.tm_unroll.specs.Latches.{need_of, LeadsToGate, NeedAtMost};
+ghost use Rattle.tm_unroll.specs.Own.{OwnTablesServe, OwnTablesServeFrom};
 
 /// Along reads the advance never rises, and where it stays the rank falls, so that every walk ends.
 pub fn walks_end()
@@ -38,6 +39,21 @@ pub fn lags_are_paid()
 /// Each gate as its own table at lag 0 makes a lawful mapping, whose period is at most the circuit's.
 pub fn own_tables_serve()
     ensures { (c : Plain) (k d : ℕ) → IsSound c → widest c.drives ≤ k → OwnTablesServe c k d }
+{}
+
+/// With a base, each gate as its own table at the lag of the base, whose leaves are the nodes behind the latches at its pins,
+/// makes a lawful mapping where no output needs a larger lag. Its period is at most the circuit's.
+pub fn own_tables_serve_from()
+    ensures { (base : ℕ) (need : ℕ → ℕ) (c : Plain) (k d : ℕ) → IsSound c → base ≤ d → NeedAtMost base need c
+        → widest c.drives ≤ k → OwnTablesServeFrom base need c k d }
+{}
+
+/// What an output needs is the base less the latches from it down to its source gate. It is at most the base, and nothing
+/// where the base is 0.
+pub fn needs_count_latches()
+    ensures counts { (base : ℕ) (c : Plain) (s latches : ℕ) → LeadsToGate c.drives s latches → need_of base c s ≡ base - latches }
+    ensures low { (base : ℕ) (c : Plain) (s : ℕ) → need_of base c s ≤ base }
+    ensures none { (c : Plain) (s : ℕ) → need_of 0 c s ≡ 0 }
 {}
 
 /// A mapping has at most one first fault, and none where it is lawful.

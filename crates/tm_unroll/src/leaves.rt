@@ -4,7 +4,7 @@ ghost use Rattle.std.specs.Prelude.{◌↔◌, ℕ, ◌≤◌, length, map, AllP
 ghost use Rattle.tm_circuit.specs.Chain.{IsGate};
 ghost use Rattle.tm_unroll.specs.Nodes.{IsBefore};
 ghost use Rattle.tm_unroll.specs.Mappings.{table_of, IsLeaf, HasLeaves};
-ghost use Rattle.tm_unroll.specs.Faults.{IsPlaced};
+ghost use Rattle.tm_unroll.specs.Faults.{HasLawfulRoot};
 ghost use Rattle.tm_unroll.specs.Lookups.{ComesAfter};
 ghost use Rattle.tm_unroll.specs.declared.node.Node.{Node as NodeValue};
 
@@ -14,7 +14,7 @@ use tm_circuit::{Circuit, Driver, Signal};
 /// Whether the gate of a table is a gate and greater than that of the table before the place, and its lag is at most `d`.
 pub fn is_placed(circuit: &Circuit, d: u8, luts: &[Lut], place: usize, lut: &Lut) -> bool
     requires { place ≤ length luts.now }
-    ensures { IsTrue result ↔ IsPlaced circuit.now d (map table_of luts.now) place (table_of lut.now) }
+    ensures { IsTrue result ↔ HasLawfulRoot circuit.now d (map table_of luts.now) place (table_of lut.now) }
 {
     lut.lag <= d && is_gate(circuit, lut.gate) && is_after(luts, place, lut.gate)
 }

@@ -11,6 +11,9 @@ use Rattle.tm_unroll.specs.Faults.{Passes, FailsBy}
 use Rattle.tm_unroll.proofs.ListLemmas.{at-read, one-at}
 use Rattle.tm_unroll.proofs.lawfulness.judge_table.Goals as goal
 
+pub covers-requires-clause-leaves : goal.covers-requires-clause-leaves
+covers-requires-clause-leaves c = λ x leaf. ((c.has_leaves.ensures.0 c.if-not-has_leaves.false).leaves x leaf).signal
+
 pub are_served-requires-clause-signals : goal.are_served-requires-clause-signals
 are_served-requires-clause-signals c =
     let has = c.has_leaves.ensures.0 c.if-not-has_leaves.false in

@@ -5,7 +5,7 @@ use Rattle.std.proofs.lemmas.Bool.{false≢true}
 use Rattle.tm_unroll.specs.declared.cover.Search.{Search}
 use Rattle.tm_unroll.specs.declared.node.Node.{Node}
 use Rattle.tm_unroll.specs.Walks.{Covers}
-use Rattle.tm_unroll.specs.Searches.{Meets}
+use Rattle.tm_unroll.specs.Searches.{MeetsMore}
 use Rattle.tm_unroll.proofs.SearchLemmas.{Pops, node_found_back, meets_none, before_starts, before_leaf, before_goes, before_ends, before_done, popped_met}
 use Rattle.tm_unroll.proofs.EachLemmas.{none-of}
 use Rattle.tm_unroll.proofs.CountLemmas.{met_within, room_less}
@@ -55,7 +55,7 @@ loop-node-smaller-in-Continue-1 c =
     let pops : Pops c.in-Some.node c.loop-node.self p = record { root = refl; met = refl; left = c.in-Some.ensures.items } in
     let found = node_found_back c.in-Some.node c.args.leaves.now in
     let other : ¬ Contains c.args.leaves.now c.in-Some.node = λ stands. false≢true (sym c.if-not-contains.true ∙ c.contains.ensures.value ∙ found.1 stands) in
-    let m : Meets _ p c.meet_reads.new.self = c.in_ok-meet_reads.ensures in
+    let m : MeetsMore _ p c.meet_reads.new.self = c.in_ok-meet_reads.ensures in
     let after = before_goes c.args.circuit.now.drives c.args.leaves.now c.loop-node.self p c.meet_reads.new.self c.in-Some.node c.loop-node.invariant.going pops other
     (sym c.is_end.ensures ∙ c.if-is_end.false) m in
     room_less c.args.circuit.now c.requires.sound c.loop-node.self p c.meet_reads.new.self c.in-Some.node _ c.loop-node.invariant.going.search after.search pops m

@@ -2,7 +2,7 @@
 use Rattle.std.proofs.Common.{◌<◌, map, length, subst, arith}
 use Rattle.std.proofs.lemmas.List.{take_all}
 use Rattle.tm_unroll.specs.Nodes.{node_at}
-use Rattle.tm_unroll.specs.Searches.{Meets}
+use Rattle.tm_unroll.specs.Searches.{MeetsMore}
 use Rattle.tm_unroll.proofs.SearchLemmas.{pins_more}
 use Rattle.tm_unroll.proofs.cover.Search.meet_pins.Goals as goal
 
@@ -14,5 +14,5 @@ loop-pin-preserved c =
 
 pub returns : goal.returns
 returns c =
-    subst (λ ps. Meets (map (λ p. node_at c.args.advance p) ps) c.args.self.now c.loop-pin.self)
+    subst (λ ps. MeetsMore (map (λ p. node_at c.args.advance p) ps) c.args.self.now c.loop-pin.self)
     (take_all c.loop-pin.pin-index c.args.pins.now (omega (arith, c.loop-pin-test.false))) c.loop-pin.invariant

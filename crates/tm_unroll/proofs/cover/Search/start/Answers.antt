@@ -6,5 +6,5 @@ use Rattle.tm_unroll.proofs.cover.Search.start.Goals as goal
 
 pub returns-clause-start : goal.returns-clause-start
 returns-clause-start c =
-    let empty : Search = record { root = node_at c.args.lut.now.lag c.args.lut.now.gate; met = c.new.result; stack = c.new-2.result } in
-    started c.args.circuit.now.drives empty c.meet_reads.new.self c.requires.gate c.new.ensures.empty c.new-2.ensures.items c.in_ok-meet_reads.ensures
+    let empty : Search = record { root = node_at c.args.lut.now.lag c.args.lut.now.gate; met = c.truncate.new.self; stack = c.clear.new.self } in
+    started c.args.circuit.now.drives empty c.meet_reads.new.self c.requires.gate c.truncate.ensures.keys c.clear.ensures.items c.in_ok-meet_reads.ensures
