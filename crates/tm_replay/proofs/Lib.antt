@@ -1,0 +1,9 @@
+pub mod SourceLemmas
+pub mod NodeLemmas
+pub mod LabelLemmas
+pub mod RefutationLemmas
+pub mod CountLemmas
+pub mod MomentLemmas
+pub mod FaultLemmas
+pub mod LostLemmas
+pub mod DigitLemmas

@@ -1,0 +1,20 @@
+//! Labels of gates and their replays: what a label is, which nodes labels serve, when a drop of a label is lawful, and what a
+//! list of drops refutes.
+//! The definitions stand in specs/, and the laws of them beside the code.
+#![tactic(auto)]
+
+pub mod drops;
+pub mod fault;
+pub mod label;
+pub mod laws;
+pub mod lost;
+mod node;
+pub mod served;
+#[cfg(test)]
+mod tests;
+
+pub use drops::{replay, replay_from};
+pub use fault::{DropFault, DropWhy, Replayed};
+pub use label::{Label, Lowering};
+pub use lost::{has_lost_source, have_lost};
+pub use served::{Served, ServedFrom, serves, serves_from};
