@@ -1,0 +1,4 @@
+pub mod Limits
+pub mod Paths
+pub mod Starts
+pub mod Passes
