@@ -1,0 +1,11 @@
+pub mod Lists
+pub mod StepLemmas
+pub mod NumberLemmas
+pub mod WordLemmas
+pub mod LineLemmas
+pub mod WriteLemmas
+pub mod ReadLemmas
+pub mod ValueLemmas
+pub mod TextLemmas
+pub mod LawLemmas
+pub mod WholeLemmas

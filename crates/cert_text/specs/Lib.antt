@@ -1,0 +1,5 @@
+pub mod Limits
+pub mod Certificates
+pub mod Words
+pub mod Faults
+pub mod Steps
