@@ -1,10 +1,9 @@
-mod FileRuns
-mod Held
+mod Causes
+mod Decided
+mod Ends
+mod Lines
 mod Names
 mod Runs
-mod ShowRuns
-mod ShowStatuses
-mod SimRuns
-mod SimStatuses
 mod Simulations
 mod Statuses
+mod Writes

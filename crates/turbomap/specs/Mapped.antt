@@ -4,16 +4,16 @@ use Rattle.tm_circuit.specs.Plain.{Plain, widest, gate_count, latch_count}
 use Rattle.tm_circuit.specs.Chain.{IsPeriod}
 use Rattle.tm_circuit.specs.Same.{IsSame}
 use Rattle.tm_circuit.specs.Sound.{IsSound}
-use Rattle.blif_read.specs.declared.TheConstants.{MAPPED}
 use Rattle.blif_read.specs.declared.fault.BlifKind.{BlifKind}
 use Rattle.blif_read.specs.declared.fault.BlifKind.TheVariants.{TooManySignals}
 use Rattle.blif_write.specs.Text.{text_of}
-use Rattle.tm_split.specs.declared.count.TheConstants.{MOST_SIGNALS}
+use Rattle.tm_split.specs.Limits.{most_subject_signals}
 use Rattle.tm_split.specs.Subject.{subject_of}
 use Rattle.blif_read.specs.Text.{IsCircuitOf}
 use Rattle.turbomap.specs.declared.map.Mapped.{Mapped}
 use Rattle.turbomap.specs.declared.map.MapFault.{MapFault}
 use Rattle.turbomap.specs.declared.map.MapFault.TheVariants.{Text, NoMemory}
+use Rattle.turbomap.specs.Limits.{mapped_limits}
 use Rattle.turbomap.specs.Map.{Blame, said_of, IsBlamed, IsFaulty}
 
 -- the text is refused for a reason that is said by this line and kind
@@ -38,13 +38,13 @@ pub record IsSubject (k : ℕ) (source subject : Plain) : Type 0 where
   pub same : IsSame source subject
   pub sound : IsSound subject
   pub narrow : widest subject.drives ≤ k
-  pub few : length (subject_of k source).drives ≤ MOST_SIGNALS
+  pub few : length (subject_of k source).drives ≤ most_subject_signals
 
 -- why a circuit has no subject circuit within the limit, as a fault that is said; want of memory says nothing
 pub record IsTooLargeAs (k : ℕ) (source : Plain) (line : ℕ) (kind : BlifKind) : Type 0 where
   pub line_is : line ≡ 0
   pub kind_is : kind ≡ TooManySignals
-  pub many : MOST_SIGNALS < length (subject_of k source).drives
+  pub many : most_subject_signals < length (subject_of k source).drives
 
 abbrev pub IsSplitFault : ℕ → Plain → MapFault → Type 0
 IsSplitFault k source (Text line kind) = IsTooLargeAs k source line kind
@@ -54,9 +54,9 @@ IsSplitFault k source NoMemory = Unit {0}
 pub record IsMappedOf (source : Plain) (mapped : Mapped) : Type 0 where
   pub circuit : Plain
   pub spelled : mapped.text.items ≡ text_of circuit
-  pub of_text : IsCircuitOf MAPPED mapped.text.items circuit
+  pub of_text : IsCircuitOf mapped_limits mapped.text.items circuit
   pub sound : IsSound circuit
-  pub only : (c : Plain) → IsCircuitOf MAPPED mapped.text.items c → c ≡ circuit
+  pub only : (c : Plain) → IsCircuitOf mapped_limits mapped.text.items c → c ≡ circuit
   pub same : IsSame source circuit
   pub narrow : widest circuit.drives ≤ widest source.drives
   pub period_is : IsPeriod circuit mapped.period

@@ -1,78 +1,62 @@
--- What is made before the first write of a run, what ends a run before it, and what comes from it on.
-use Rattle.std.specs.Prelude.{◌≡◌, ◌⊎◌, ℕ, List, Option, string_bytes}
+-- What a command has ready before its first write, what ends it before that, and how it ends from there on: the values of the code as
+-- those of the definitions.
+use Rattle.std.specs.Prelude.{◌≡◌, ◌⊎◌, ℕ, List, [], ◌∷◌, ◌++◌, Option, map, string_bytes}
+use Rattle.std.specs.List.{AllByRecursion}
 use Rattle.tm_store.specs.Files.{Files}
-use Rattle.turbomap.specs.declared.map.Mapped.{Mapped}
-use Rattle.turbomap.specs.declared.map.MapFault.{MapFault}
-use Rattle.turbomap.specs.declared.map.MapFault.TheVariants as map_fault
+use Rattle.turbomap.specs.declared.ready.Output.{Output}
+use Rattle.turbomap.specs.declared.ready.Ready.{Ready}
 use Rattle.turbomap.specs.declared.refusal.Refusal.{Refusal}
 use Rattle.turbomap.specs.declared.refusal.Refusal.TheVariants as refusal
-use Rattle.turbomap.specs.declared.prepare.Ready.{Ready}
 use Rattle.turbomap.specs.declared.status.Status.{Status}
 use Rattle.turbomap.specs.declared.status.Status.TheVariants as status
-use Rattle.turbomap.specs.declared.text.TheConstants.{SOURCE_BYTES}
-use Rattle.turbomap.specs.Line.{no_memory_line, unwritten_line, mapped_line}
-use Rattle.turbomap.specs.Map.{Maps, Blame, fault, IsBlamed}
-use Rattle.turbomap.specs.Outcome.{Stored, Spoken, Holds, IsWritten, FailsToWrite, FailsToSay}
-use Rattle.turbomap.specs.Refused.{IsReadFault, IsLengthFault}
-use Rattle.turbomap.specs.Run.{IsAccepted, IsRefusedFor, blame_line}
+use Rattle.turbomap.specs.Command.{Input, Write, write_of, Command, Stored, Around, IsApart, names_of, AreTexts, IsUnread, IsTooLong, IsCause, IsChangedBy, IsDone, FailsToWrite, FailsToSay}
+use Rattle.turbomap.specs.Line.{no_memory_line, unwritten_line}
+use Rattle.tm_store.specs.Faults.{Rose}
 
--- ---- one text
+-- ---- what is ready
 
--- the line says this fault of the file
-abbrev pub SaysFault : List ℕ → MapFault → List ℕ → Type 0
-SaysFault name (map_fault.Text line kind) said = said ≡ blame_line name (fault line kind)
-SaysFault name map_fault.NoMemory said = ⊥
+abbrev pub seen : Output → Write
+seen output = write_of output.name.now output.bytes.items
 
--- the text and the lines of a mapped circuit
-pub record IsReadyOf (output : List ℕ) (mapped : Mapped) (ready : Ready) : Type 0 where
-  pub text_is : ready.text.items ≡ mapped.text.items
-  pub done_is : string_bytes ready.done ≡ mapped_line mapped.period mapped.tables mapped.registers
-  pub unwritten_is : string_bytes ready.unwritten ≡ unwritten_line output
+abbrev pub writes_of : Ready → List Write
+writes_of ready = map seen ready.outputs.items
 
--- what is ready maps the text
-pub record IsMade (k : ℕ) (output text : List ℕ) (ready : Ready) : Type 0 where
-  pub period : ℕ
-  pub tables : ℕ
-  pub registers : ℕ
-  pub maps : Maps k text ready.text.items period tables registers
-  pub done_is : string_bytes ready.done ≡ mapped_line period tables registers
-  pub unwritten_is : string_bytes ready.unwritten ≡ unwritten_line output
+abbrev pub lines_of : Ready → List (List ℕ)
+lines_of ready = map (λ line. line.items) ready.lines.items
 
--- the text is refused for a reason that the line says
-pub record IsBlame (k : ℕ) (name text line : List ℕ) : Type 0 where
-  pub blame : Blame
-  pub blamed : IsBlamed k text blame
-  pub line_is : line ≡ blame_line name blame
+-- names that differ pairwise
+abbrev pub AreApart : List (List ℕ) → Type 0
+AreApart [] = Unit {0}
+AreApart (name ∷ names) = IsApart name names × AreApart names
 
-abbrev pub IsRefusedText : ℕ → List ℕ → List ℕ → Refusal → Type 0
-IsRefusedText k name text refusal.NoMemory = Unit {0}
-IsRefusedText k name text (refusal.Unread line) = ⊥
-IsRefusedText k name text (refusal.BadText line) = IsBlame k name text (string_bytes line)
-IsRefusedText k name text (refusal.TooLong line) = ⊥
+-- the line for a failed write names the file
+abbrev pub SaysUnwritten : Output → Type 0
+SaysUnwritten output = string_bytes output.unwritten ≡ unwritten_line output.name.now
 
--- ---- one file
+-- files that can be written in turn: their names differ, and each has its line
+pub record AreOutputs (outputs : List Output) : Type 0 where
+  pub apart : AreApart (names_of (map seen outputs))
+  pub lines : AllByRecursion SaysUnwritten outputs
 
--- what is ready maps the text that the file holds
-pub record IsPrepared (k : ℕ) (input output : List ℕ) (before : Option Files) (ready : Ready) : Type 0 where
-  pub period : ℕ
-  pub tables : ℕ
-  pub registers : ℕ
-  pub accepted : Holds before input (IsAccepted k)
-  pub maps : Holds before input (λ text. Maps k text ready.text.items period tables registers)
-  pub done_is : string_bytes ready.done ≡ mapped_line period tables registers
-  pub unwritten_is : string_bytes ready.unwritten ≡ unwritten_line output
+-- one file is to be written, and one line to be said
+pub record IsOne (name bytes line : List ℕ) (ready : Ready) : Type 0 where
+  pub writes : writes_of ready ≡ write_of name bytes ∷ []
+  pub lines : lines_of ready ≡ line ∷ []
+  pub outputs : AreOutputs ready.outputs.items
 
-pub record IsTextFault (k : ℕ) (name : List ℕ) (before : Option Files) (line : List ℕ) : Type 0 where
-  pub blame : Blame
-  pub refused : Holds before name (IsRefusedFor k blame)
-  pub line_is : line ≡ blame_line name blame
+-- what the command makes of the texts is ready
+pub record IsMade (command : Command) (texts : List (List ℕ)) (ready : Ready) : Type 0 where
+  pub made : command.Makes texts (writes_of ready) (lines_of ready)
+  pub named : names_of (writes_of ready) ≡ command.outputs
+  pub outputs : AreOutputs ready.outputs.items
 
--- why a run ends before its first write, and the line that says so
-abbrev pub IsRefusal : ℕ → List ℕ → Option Files → (List ℕ → ℕ) → (List ℕ → ℕ) → Refusal → Type 0
-IsRefusal k name before counts_before counts_after refusal.NoMemory = Unit {0}
-IsRefusal k name before counts_before counts_after (refusal.Unread line) = IsReadFault name counts_before counts_after (string_bytes line)
-IsRefusal k name before counts_before counts_after (refusal.BadText line) = IsTextFault k name before (string_bytes line)
-IsRefusal k name before counts_before counts_after (refusal.TooLong line) = IsLengthFault SOURCE_BYTES name before (string_bytes line)
+-- what the command makes of the texts of its files is ready
+pub record IsReady (command : Command) (told : Option Files) (ready : Ready) : Type 0 where
+  pub texts : List (List ℕ)
+  pub read : AreTexts told command.inputs texts
+  pub made : IsMade command texts ready
+
+-- ---- what ends a command before its first write
 
 -- the status of a refusal, and the line that it says
 abbrev pub status_of : Refusal → Status
@@ -87,10 +71,38 @@ line_of (refusal.Unread line) = string_bytes line
 line_of (refusal.BadText line) = string_bytes line
 line_of (refusal.TooLong line) = string_bytes line
 
+-- there is a cause for the refusal
+abbrev pub HasCause : Command → Stored → Refusal → Type 0
+HasCause command stored why = IsCause command stored (status_of why) (line_of why)
+
+-- why a file does not give its text; want of memory says nothing
+abbrev pub IsFileRefusal : Input → Stored → Refusal → Type 0
+IsFileRefusal input stored refusal.NoMemory = Unit {0}
+IsFileRefusal input stored (refusal.Unread line) = IsUnread input stored (string_bytes line)
+IsFileRefusal input stored (refusal.BadText line) = ⊥
+IsFileRefusal input stored (refusal.TooLong line) = IsTooLong input stored (string_bytes line)
+
+-- why texts are refused; want of memory says nothing
+abbrev pub IsTextRefusal : Command → List (List ℕ) → Refusal → Type 0
+IsTextRefusal command texts refusal.NoMemory = Unit {0}
+IsTextRefusal command texts (refusal.Unread line) = ⊥
+IsTextRefusal command texts (refusal.BadText line) = command.Refuses texts status.BadText (string_bytes line)
+IsTextRefusal command texts (refusal.TooLong line) = command.Refuses texts status.TooLong (string_bytes line)
+
 -- ---- from the first write on
 
-abbrev pub IsDelivered : List ℕ → Ready → Stored → Spoken → Status → Type 0
-IsDelivered output ready stored spoken status.Done = IsWritten output ready.text.items (string_bytes ready.done) stored spoken
-IsDelivered output ready stored spoken status.Unwritten =
-    FailsToWrite output (string_bytes ready.unwritten) stored spoken ⊎ FailsToSay output ready.text.items (string_bytes ready.done) stored spoken
-IsDelivered output ready stored spoken _ = ⊥
+-- a write failed: those before it were done and no later one, and the line is for it
+pub record IsUnwritten (outputs : List Output) (stored : Stored) (line : List ℕ) : Type 0 where
+  pub written : List Output
+  pub failed : Output
+  pub unwritten : List Output
+  pub outputs_are : outputs ≡ written ++ failed ∷ unwritten
+  pub counted : Rose (stored.unwritten_before failed.name.now) (stored.unwritten_after failed.name.now)
+  pub changed : IsChangedBy (map seen written) (failed.name.now ∷ []) stored.before stored.after
+  pub line_is : line ≡ unwritten_line failed.name.now
+
+abbrev pub IsDelivered : Ready → Around → Status → Type 0
+IsDelivered ready around status.Done = IsDone (writes_of ready) (lines_of ready) around
+IsDelivered ready around status.Unwritten =
+    FailsToWrite (writes_of ready) around ⊎ FailsToSay (writes_of ready) (lines_of ready) around
+IsDelivered ready around _ = ⊥

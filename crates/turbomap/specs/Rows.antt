@@ -2,14 +2,14 @@
 use Rattle.std.specs.Prelude.{◌≡◌, ℕ, List, Err}
 use Rattle.tm_sim.specs.Vectors.{vectors_of}
 use Rattle.tm_sim.specs.declared.vectors.VectorFault.TheVariants.{Text}
-use Rattle.blif_read.specs.declared.TheConstants.{MAPPED}
 use Rattle.blif_read.specs.Text.{IsFaultOf}
 use Rattle.turbomap.specs.declared.simulate.SimFault.{SimFault}
 use Rattle.turbomap.specs.declared.simulate.SimFault.TheVariants.{Blif, Vectors, TooLong, NoMemory}
+use Rattle.turbomap.specs.Limits.{mapped_limits}
 
 -- why a text has no circuit; want of memory says nothing
 abbrev pub IsCircuitFault : List ℕ → SimFault → Type 0
-IsCircuitFault text (Blif line kind) = IsFaultOf MAPPED text (line, kind)
+IsCircuitFault text (Blif line kind) = IsFaultOf mapped_limits text (line, kind)
 IsCircuitFault text (Vectors line kind) = ⊥
 IsCircuitFault text TooLong = ⊥
 IsCircuitFault text NoMemory = Unit {0}

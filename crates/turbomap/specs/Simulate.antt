@@ -1,5 +1,6 @@
--- What the simulation of a circuit's text with a text of vectors is, and why two texts are not simulated.
-use Rattle.std.specs.Prelude.{◌≡◌, ℕ, ◌+◌, ◌*◌, ◌<◌, ◌≤◌, Bool, List, map, length, Ok, Err}
+-- `sim IN VECTORS OUT`: what the simulation of a circuit's text with a text of vectors is, why two texts are not simulated, and the
+-- command.
+use Rattle.std.specs.Prelude.{◌≡◌, ◌⊎◌, ℕ, ◌+◌, ◌*◌, ◌<◌, ◌≤◌, Bool, List, [], ◌∷◌, map, length, Ok, Err}
 use Rattle.std.specs.List.{range_with_len}
 use Rattle.tm_circuit.specs.Plain.{Plain, input_count}
 use Rattle.tm_circuit.specs.Sound.{IsSound}
@@ -7,26 +8,25 @@ use Rattle.tm_circuit.specs.Trace.{IsTrace, shown}
 use Rattle.tm_sim.specs.Vectors.{vectors_of, text_of}
 use Rattle.tm_sim.specs.declared.vectors.VectorFault.TheVariants.{Text}
 use Rattle.tm_sim.specs.declared.vectors.VectorKind.{VectorKind}
-use Rattle.blif_read.specs.declared.TheConstants.{MAPPED}
 use Rattle.blif_read.specs.Text.{IsCircuitOf, IsFaultOf}
-use Rattle.turbomap.specs.declared.text.TheConstants.{MAPPED_BYTES, VECTOR_BYTES}
-use Rattle.turbomap.specs.declared.simulate.TheConstants.{OUTPUT_BYTES}
 use Rattle.turbomap.specs.declared.simulate.SimFault.{SimFault}
-use Rattle.turbomap.specs.declared.simulate.SimFault.TheVariants.{Blif, Vectors, TooLong, NoMemory}
-
--- The two texts are within their limits.
-pub record AreShort (text vectors : List ℕ) : Type 0 where
-  pub first : length text ≤ MAPPED_BYTES
-  pub second : length vectors ≤ VECTOR_BYTES
+use Rattle.turbomap.specs.declared.simulate.SimFault.TheVariants as fault
+use Rattle.turbomap.specs.declared.status.Status.{Status}
+use Rattle.turbomap.specs.declared.status.Status.TheVariants.{BadText, TooLong}
+use Rattle.turbomap.specs.Command.{Write, Command, input_of, write_of}
+use Rattle.turbomap.specs.Kind.{vector_kind_name}
+use Rattle.turbomap.specs.Limits.{mapped_bytes, vector_bytes, output_bytes, mapped_limits}
+use Rattle.turbomap.specs.Line.{too_long_line, fault_line, steps_line}
+use Rattle.turbomap.specs.Texts.{IsFaultyText}
 
 -- The text has the circuit, and the vectors have the rows for its inputs.
 pub record HasRows (text vectors : List ℕ) (circuit : Plain) (rows : List (List Bool)) : Type 0 where
-  pub of_text : IsCircuitOf MAPPED text circuit
+  pub of_text : IsCircuitOf mapped_limits text circuit
   pub of_vectors : vectors_of (input_count circuit.drives) vectors ≡ Ok rows
 
 -- The number of bytes of the output rows: in each of them a byte for each output, and an LF.
-abbrev pub output_bytes : Plain → List (List Bool) → ℕ
-output_bytes circuit rows = length rows * (length circuit.outputs + 1)
+abbrev pub bytes_of : Plain → List (List Bool) → ℕ
+bytes_of circuit rows = length rows * (length circuit.outputs + 1)
 
 -- The output rows of a circuit for rows of its inputs: those of its trace, in each step the bits of the outputs.
 pub record IsOutput (circuit : Plain) (rows outputs : List (List Bool)) : Type 0 where
@@ -35,29 +35,27 @@ pub record IsOutput (circuit : Plain) (rows outputs : List (List Bool)) : Type 0
 -- The bytes are the output rows of the circuit of the text for the rows of the vectors, so many steps. The circuit is sound,
 -- so that it has a trace for the rows, and exactly one.
 pub record Simulates (text vectors bytes : List ℕ) (steps : ℕ) : Type 0 where
-  pub short : AreShort text vectors
   pub circuit : Plain
   pub rows : List (List Bool)
   pub has : HasRows text vectors circuit rows
   pub sound : IsSound circuit
-  pub few : output_bytes circuit rows ≤ OUTPUT_BYTES
+  pub few : bytes_of circuit rows ≤ output_bytes
   pub outputs : List (List Bool)
   pub output : IsOutput circuit rows outputs
   pub bytes_are : bytes ≡ text_of outputs
   pub steps_are : steps ≡ length rows
 
--- The texts are within their limits, have a circuit and rows for it, and the output rows are within their limit.
+-- The texts have a circuit and rows for it, and the output rows are within their limit.
 pub record IsSimulable (text vectors : List ℕ) : Type 0 where
-  pub short : AreShort text vectors
   pub circuit : Plain
   pub rows : List (List Bool)
   pub has : HasRows text vectors circuit rows
-  pub few : output_bytes circuit rows ≤ OUTPUT_BYTES
+  pub few : bytes_of circuit rows ≤ output_bytes
 
 -- The text has a circuit, and the vectors have this first fault for its inputs.
 pub record IsVectorsFault (text vectors : List ℕ) (line : ℕ) (kind : VectorKind) : Type 0 where
   pub circuit : Plain
-  pub of_text : IsCircuitOf MAPPED text circuit
+  pub of_text : IsCircuitOf mapped_limits text circuit
   pub first : vectors_of (input_count circuit.drives) vectors ≡ Err (Text line kind)
 
 -- The texts have a circuit and rows for it, and the output rows are longer than their limit.
@@ -65,11 +63,58 @@ pub record IsOutputLong (text vectors : List ℕ) : Type 0 where
   pub circuit : Plain
   pub rows : List (List Bool)
   pub has : HasRows text vectors circuit rows
-  pub long : OUTPUT_BYTES < output_bytes circuit rows
+  pub long : output_bytes < bytes_of circuit rows
 
 -- Why two texts are not simulated: the first of these. Want of memory says nothing.
 abbrev pub IsSimFault : List ℕ → List ℕ → SimFault → Type 0
-IsSimFault text vectors (Blif line kind) = IsFaultOf MAPPED text (line, kind)
-IsSimFault text vectors (Vectors line kind) = IsVectorsFault text vectors line kind
-IsSimFault text vectors TooLong = IsOutputLong text vectors
-IsSimFault text vectors NoMemory = Unit {0}
+IsSimFault text vectors (fault.Blif line kind) = IsFaultOf mapped_limits text (line, kind)
+IsSimFault text vectors (fault.Vectors line kind) = IsVectorsFault text vectors line kind
+IsSimFault text vectors fault.TooLong = IsOutputLong text vectors
+IsSimFault text vectors fault.NoMemory = Unit {0}
+
+-- ---- the command
+
+-- the text has a circuit, for which the vectors of the file have a first fault, and the line says it
+pub record AreFaultyVectors (name text vectors : List ℕ) (status : Status) (line : List ℕ) : Type 0 where
+  pub number : ℕ
+  pub kind : VectorKind
+  pub fault : IsVectorsFault text vectors number kind
+  pub status_is : status ≡ BadText
+  pub line_is : line ≡ fault_line name number (vector_kind_name kind)
+
+-- the output rows are longer than their limit, and the line names the file that they were for
+pub record IsOutputRefused (output text vectors : List ℕ) (status : Status) (line : List ℕ) : Type 0 where
+  pub long : IsOutputLong text vectors
+  pub status_is : status ≡ TooLong
+  pub line_is : line ≡ too_long_line output
+
+-- what is written are the output rows, and the line says their number
+pub record IsSimulation (output text vectors : List ℕ) (writes : List Write) (lines : List (List ℕ)) : Type 0 where
+  pub bytes : List ℕ
+  pub steps : ℕ
+  pub simulates : Simulates text vectors bytes steps
+  pub writes_are : writes ≡ write_of output bytes ∷ []
+  pub lines_are : lines ≡ steps_line steps ∷ []
+
+abbrev pub SimRefuses : List ℕ → List ℕ → List ℕ → List (List ℕ) → Status → List ℕ → Type 0
+SimRefuses input vectors output (text ∷ rows ∷ []) status line =
+    IsFaultyText mapped_limits input text status line
+    ⊎ (AreFaultyVectors vectors text rows status line ⊎ IsOutputRefused output text rows status line)
+SimRefuses input vectors output texts status line = ⊥
+
+abbrev pub SimAccepts : List (List ℕ) → Type 0
+SimAccepts (text ∷ rows ∷ []) = IsSimulable text rows
+SimAccepts texts = ⊥
+
+abbrev pub SimMakes : List ℕ → List (List ℕ) → List Write → List (List ℕ) → Type 0
+SimMakes output (text ∷ rows ∷ []) writes lines = IsSimulation output text rows writes lines
+SimMakes output texts writes lines = ⊥
+
+abbrev pub sim_command : List ℕ → List ℕ → List ℕ → Command
+sim_command input vectors output = record {
+  inputs = input_of input mapped_bytes ∷ input_of vectors vector_bytes ∷ [];
+  outputs = output ∷ [];
+  Refuses = SimRefuses input vectors output;
+  Accepts = SimAccepts;
+  Makes = SimMakes output;
+}

@@ -1,10 +1,10 @@
 -- The reading of the words of a command line.
 use Rattle.std.specs.Prelude.{ℕ, ◌+◌, ◌-◌, Bool, true, not, ◌&&◌, ◌==◌, nat_le, if◌then◌else◌, List, [], ◌∷◌, Option, None, Some, length, option_and_then, bytes_eq, codes}
 use Rattle.std.specs.List.{list_any}
-use Rattle.tm_bits.specs.declared.TheConstants.{MOST_K}
-use Rattle.turbomap.specs.declared.words.TheConstants.{MOST_D}
-use Rattle.turbomap.specs.declared.words.Command.{Command}
-use Rattle.turbomap.specs.declared.words.Command.TheVariants.{Map, Sim, Show}
+use Rattle.tm_bits.specs.Limits.{most_inputs}
+use Rattle.turbomap.specs.declared.reading.Reading.{Reading}
+use Rattle.turbomap.specs.declared.reading.Reading.TheVariants.{Map, Sim, Show}
+use Rattle.turbomap.specs.Limits.{most_lag}
 
 -- what the words ask for: to map with the numbers K and D and the names of IN and OUT, to simulate IN with VECTORS into
 -- OUT, or to report on IN
@@ -13,8 +13,8 @@ pub data Asked : Type 0 where
   sim_files : List ℕ → List ℕ → List ℕ → Asked
   show_file : List ℕ → Asked
 
--- a command as what is asked for
-abbrev pub seen : Command → Asked
+-- a reading of words as what is asked for
+abbrev pub seen : Reading → Asked
 seen (Map words) = map_files words.k words.d words.input.now words.output.now
 seen (Sim words) = sim_files words.input.now words.vectors.now words.output.now
 seen (Show input) = show_file input.now
@@ -39,7 +39,7 @@ abbrev pub map_of : List ℕ → List ℕ → List ℕ → List ℕ → Option A
 map_of k d input output =
     option_and_then (λ k. option_and_then (λ d.
     if are_names (input ∷ output ∷ []) then Some (map_files k d input output) else None)
-    (digit_between 0 MOST_D d)) (digit_between 2 MOST_K k)
+    (digit_between 0 most_lag d)) (digit_between 2 most_inputs k)
 
 -- the words after `sim`: IN VECTORS OUT
 abbrev pub sim_of : List ℕ → List ℕ → List ℕ → Option Asked

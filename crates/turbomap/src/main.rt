@@ -3,10 +3,14 @@
 //! it the files, the standard output and the words of the command line.
 #![tactic(auto)]
 
+mod deliver;
 mod kind;
+pub mod limits;
 mod line;
 pub mod map;
-mod prepare;
+mod map_file;
+pub mod reading;
+mod ready;
 mod refusal;
 mod say;
 mod show_file;

@@ -1,14 +1,13 @@
 // Maps one text.
 
 ghost use Rattle.std.specs.Prelude.{ℕ, ◌≤◌, length, IfOk, IfErr};
-ghost use Rattle.tm_bits.specs.declared.TheConstants.{MOST_K};
-ghost use Rattle.turbomap.specs.declared.text.TheConstants.{SOURCE_BYTES};
-ghost use Rattle.turbomap.specs.declared.words.TheConstants.{MOST_D};
+ghost use Rattle.tm_bits.specs.Limits.{most_inputs};
 ghost use Rattle.tm_circuit.specs.Plain.{widest};
 ghost use Rattle.tm_circuit.specs.Sound.{IsSound};
 ghost use Rattle.blif_read.specs.Text.{IsCircuitOf};
+ghost use Rattle.turbomap.specs.Limits.{most_lag, source_bytes, source_limits};
 ghost use Rattle.turbomap.specs.Map.{Maps, IsFaulty};
-ghost use Rattle.tm_split.specs.Names.{HasNamesWithin};
+ghost use Rattle.tm_parts.specs.Names.{HasNamesWithin};
 ghost use Rattle.turbomap.specs.Mapped.{IsMapFault, IsReadFault, IsSubject, IsSplitFault, IsMappedOf};
 
 use blif_read::{BlifFault, BlifKind, SOURCE, read};
@@ -52,9 +51,9 @@ impl From<NoMemory> for MapFault {
 /// Maps the circuit of a text to tables of at most `k` inputs: wide gates are split, then each gate is its own table, and no
 /// register moves.
 pub fn map_text(alloc: Global, text: &[u8], k: u8, d: u8) -> Result<Mapped, MapFault>
-    requires tables { (2 ≤ k) × (k ≤ MOST_K) }
-    requires lags { d ≤ MOST_D }
-    requires short { length text.now ≤ SOURCE_BYTES }
+    requires tables { (2 ≤ k) × (k ≤ most_inputs) }
+    requires lags { d ≤ most_lag }
+    requires short { length text.now ≤ source_bytes }
     ensures maps { IfOk result (λ mapped. Maps k text.now mapped.text.items mapped.period mapped.tables mapped.registers) }
     ensures fault { IfErr result (IsMapFault k text.now) }
 {
@@ -66,8 +65,8 @@ pub fn map_text(alloc: Global, text: &[u8], k: u8, d: u8) -> Result<Mapped, MapF
 
 // The circuit of the text.
 fn read_source(alloc: Global, text: &[u8]) -> Result<Circuit, MapFault>
-    requires { length text.now ≤ SOURCE_BYTES }
-    ensures circuit { IfOk result (IsCircuitOf SOURCE text.now) }
+    requires { length text.now ≤ source_bytes }
+    ensures circuit { IfOk result (IsCircuitOf source_limits text.now) }
     ensures sound { IfOk result IsSound }
     ensures fault { IfErr result (IsReadFault text.now) }
 {
@@ -84,7 +83,7 @@ fn read_source(alloc: Global, text: &[u8]) -> Result<Circuit, MapFault>
 
 // The subject circuit, in which no gate has more than `k` pins.
 fn split(alloc: Global, source: &Circuit, k: u8) -> Result<Circuit, MapFault>
-    requires tables { (2 ≤ k) × (k ≤ MOST_K) }
+    requires tables { (2 ≤ k) × (k ≤ most_inputs) }
     requires names { HasNamesWithin 255 source.now }
     ensures subject { IfOk result (IsSubject k source.now) }
     ensures fault { IfErr result (IsSplitFault k source.now) }
@@ -101,7 +100,7 @@ fn split(alloc: Global, source: &Circuit, k: u8) -> Result<Circuit, MapFault>
 
 // The circuit with each gate as its own table, as a text.
 fn mapped_of(alloc: Global, source: &Circuit) -> Result<Mapped, NoMemory>
-    requires { widest source.now.drives ≤ MOST_K }
+    requires { widest source.now.drives ≤ most_inputs }
     ensures { IfOk result (IsMappedOf source.now) }
 {
     let mapped = own(alloc, source)?;

@@ -1,17 +1,45 @@
-// What ends a run before its first write.
+// What ends a command before its first write.
 
 ghost use Rattle.std.specs.Prelude.{◌≡◌};
 ghost use Rattle.turbomap.specs.declared.refusal.Refusal.TheVariants.{NoMemory};
+ghost use Rattle.turbomap.specs.Prepared.{status_of, line_of};
 
+use crate::line::NO_MEMORY;
+use crate::status::Status;
 use std::alloc::AllocError;
 
-/// Why a run ends before its first write, with the line that is said.
+/// Why a command ends before its first write, with the line that is said.
 #[derive(Debug, Drop)]
 pub enum Refusal {
     NoMemory,
     Unread(String),
     BadText(String),
     TooLong(String),
+}
+
+impl Refusal {
+    /// The status of the program.
+    pub fn status(&self) -> Status
+        ensures { result ≡ status_of self.now }
+    {
+        match self {
+            Refusal::NoMemory => Status::NoMemory,
+            Refusal::Unread(_) => Status::Unread,
+            Refusal::BadText(_) => Status::BadText,
+            Refusal::TooLong(_) => Status::TooLong,
+        }
+    }
+
+    /// The line that is said, without its LF.
+    pub fn line(&self) -> &str
+        ensures { result.now ≡ line_of self.now }
+    {
+        match self {
+            Refusal::NoMemory => NO_MEMORY,
+            Refusal::Unread(line) | Refusal::BadText(line) | Refusal::TooLong(line) =>
+                line.as_str(),
+        }
+    }
 }
 
 impl From<AllocError> for Refusal {

@@ -1,48 +1,27 @@
-// What is said as a run ends.
+// Lines said, one or more.
 
-ghost use Rattle.std.specs.Prelude.{◌≡◌, ◌⊎◌, codes};
+ghost use Rattle.std.specs.Prelude.{map};
 ghost use Rattle.std.specs.Bool.{OnTrue, OnFalse};
-ghost use Rattle.turbomap.specs.Outcome.{spoken, SaysWhole, SaysPart, Says};
-ghost use Rattle.turbomap.specs.Prepared.{status_of, line_of};
+ghost use Rattle.turbomap.specs.Command.{spoken, SaysAll, SaysPart, Says};
 
-use crate::line::NO_MEMORY;
-use crate::refusal::Refusal;
-use crate::status::Status;
 use tm_store::Say;
 
-/// Says the line, and answers whether it was said whole.
-pub fn tell<W: Say>(say: &mut W, line: &str) -> bool
-    ensures whole { OnTrue result (SaysWhole (spoken (W.said say.old) (W.said say.new) (W.faults say.old) (W.faults say.new)) line.now) }
-    ensures part { OnFalse result (SaysPart (spoken (W.said say.old) (W.said say.new) (W.faults say.old) (W.faults say.new)) line.now) }
-    ensures says { Says (spoken (W.said say.old) (W.said say.new) (W.faults say.old) (W.faults say.new)) line.now }
+/// Says the line, as far as the sayer takes it.
+pub fn tell<W: Say>(say: &mut W, line: &str)
+    ensures { Says (spoken W.said W.faults say.old say.new) line.now }
 {
-    match say.line(line.as_bytes()) {
-        Ok(()) => true,
-        Err(_) => false,
-    }
+    let _ = say.line(line.as_bytes());
 }
 
-/// Ends a run that is refused before its first write.
-pub fn refuse<W: Say>(refusal: &Refusal, say: &mut W) -> Status
-    ensures status { result ≡ status_of refusal.now }
-    ensures says { Says (spoken (W.said say.old) (W.said say.new) (W.faults say.old) (W.faults say.new)) (line_of refusal.now) }
+/// Says the lines in order, and answers whether all were said. After a line that was not said whole it says no more.
+pub fn tell_all<W: Say>(say: &mut W, lines: &[Vec<u8>]) -> bool
+    ensures all { OnTrue result (SaysAll (spoken W.said W.faults say.old say.new) (map (λ line. line.items) lines.now)) }
+    ensures part { OnFalse result (SaysPart (spoken W.said W.faults say.old say.new) (map (λ line. line.items) lines.now)) }
 {
-    match refusal {
-        Refusal::NoMemory => {
-            tell(say, NO_MEMORY);
-            Status::NoMemory
-        }
-        Refusal::Unread(line) => {
-            tell(say, line.as_str());
-            Status::Unread
-        }
-        Refusal::BadText(line) => {
-            tell(say, line.as_str());
-            Status::BadText
-        }
-        Refusal::TooLong(line) => {
-            tell(say, line.as_str());
-            Status::TooLong
+    for line in lines {
+        if say.line(line).is_err() {
+            return false;
         }
     }
+    true
 }

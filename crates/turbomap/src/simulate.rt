@@ -5,19 +5,17 @@ ghost use Rattle.tm_circuit.specs.Plain.{input_count};
 ghost use Rattle.tm_circuit.specs.Sound.{IsSound};
 ghost use Rattle.tm_sim.specs.Vectors.{vectors_of};
 ghost use Rattle.blif_read.specs.Text.{IsCircuitOf};
-ghost use Rattle.turbomap.specs.declared.text.TheConstants.{MAPPED_BYTES, VECTOR_BYTES};
-ghost use Rattle.turbomap.specs.Simulate.{output_bytes, IsOutput, Simulates, IsSimFault};
+ghost use Rattle.turbomap.specs.Limits.{mapped_bytes, vector_bytes, output_bytes, mapped_limits};
+ghost use Rattle.turbomap.specs.Simulate.{bytes_of, IsOutput, Simulates, IsSimFault};
 ghost use Rattle.turbomap.specs.Rows.{IsCircuitFault, IsRowsFault};
 
+use crate::limits::OUTPUT_BYTES;
 use blif_read::{BlifFault, BlifKind, MAPPED, read};
 use std::alloc::Global;
 use thiserror::Error;
 use tm_bits::NoMemory;
 use tm_circuit::Circuit;
 use tm_sim::{Machine, VectorFault, VectorKind, Vectors, vectors};
-
-/// The limit on the output rows of a simulation, in bytes.
-pub const OUTPUT_BYTES: u64 = 268_435_456;
 
 /// The output rows of a simulation as a vectors text, and their number.
 #[derive(Drop)]
@@ -55,8 +53,8 @@ impl From<NoMemory> for SimFault {
 /// Simulates the circuit of the text, read with the limits of a mapped text, on the rows of the vectors: the answer has the bits of
 /// the outputs at each step. The output rows have at most 268,435,456 bytes.
 pub fn sim_text(alloc: Global, text: &[u8], vectors: &[u8]) -> Result<Simulated, SimFault>
-    requires text { length text.now ≤ MAPPED_BYTES }
-    requires vectors { length vectors.now ≤ VECTOR_BYTES }
+    requires text { length text.now ≤ mapped_bytes }
+    requires vectors { length vectors.now ≤ vector_bytes }
     ensures simulates { IfOk result (λ simulated. Simulates text.now vectors.now simulated.text.items simulated.steps) }
     ensures fault { IfErr result (IsSimFault text.now vectors.now) }
 {
@@ -75,8 +73,8 @@ pub fn sim_text(alloc: Global, text: &[u8], vectors: &[u8]) -> Result<Simulated,
 
 // The circuit of the text.
 fn read_circuit(alloc: Global, text: &[u8]) -> Result<Circuit, SimFault>
-    requires { length text.now ≤ MAPPED_BYTES }
-    ensures circuit { IfOk result (IsCircuitOf MAPPED text.now) }
+    requires { length text.now ≤ mapped_bytes }
+    ensures circuit { IfOk result (IsCircuitOf mapped_limits text.now) }
     ensures fault { IfErr result (IsCircuitFault text.now) }
 {
     match read(alloc, text, &MAPPED) {
@@ -88,7 +86,7 @@ fn read_circuit(alloc: Global, text: &[u8]) -> Result<Circuit, SimFault>
 
 // The rows of the vectors for so many inputs.
 fn read_rows(alloc: Global, width: u32, text: &[u8]) -> Result<Vectors, SimFault>
-    requires { length text.now ≤ VECTOR_BYTES }
+    requires { length text.now ≤ vector_bytes }
     ensures width { IfOk result (λ rows. rows.width ≡ width) }
     ensures rows { IfOk result (λ rows. vectors_of width text.now ≡ Ok rows.rows) }
     ensures fault { IfErr result (IsRowsFault width text.now) }
@@ -103,7 +101,7 @@ fn read_rows(alloc: Global, width: u32, text: &[u8]) -> Result<Vectors, SimFault
 // The output rows of the circuit for the rows.
 fn output_rows(alloc: Global, circuit: &Circuit, rows: &Vectors) -> Result<Vectors, NoMemory>
     requires width { rows.now.width ≡ input_count circuit.now.drives }
-    requires few { output_bytes circuit.now rows.now.rows ≤ OUTPUT_BYTES }
+    requires few { bytes_of circuit.now rows.now.rows ≤ output_bytes }
     ensures output { IfOk result (λ output. IsOutput circuit.now rows.now.rows output.rows) }
     ensures sound { OnOk result (IsSound circuit.now) }
 {

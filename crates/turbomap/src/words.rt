@@ -1,42 +1,15 @@
 // The words of a command line, read as a command.
 
-ghost use Rattle.std.specs.Prelude.{◌≡◌, ◌≤◌, map, option_map, string_bytes, bytes_eq};
+ghost use Rattle.std.specs.Prelude.{◌≡◌, ◌≤◌, map, option_map, string_bytes, bytes_eq, IfSome};
 ghost use Rattle.std.specs.List.{list_any};
 ghost use Rattle.turbomap.specs.Words.{seen, asked_of, map_of, sim_of, show_of, are_names, is_apart, digit_between};
 
+use crate::limits::MOST_D;
+use crate::reading::{MapWords, Reading, SimWords};
 use tm_bits::MOST_K;
 
-/// The greatest D: so many registers at most are moved over a gate.
-pub const MOST_D: u8 = 8;
-
-/// What the words ask for.
-#[derive(Clone, Copy)]
-pub enum Command<'a> {
-    Map(MapWords<'a>),
-    Sim(SimWords<'a>),
-    /// `show IN`: the name of a file.
-    Show(&'a str),
-}
-
-/// `map K D IN OUT`: tables of at most `k` inputs, lags of at most `d`, and the names of two files.
-#[derive(Clone, Copy)]
-pub struct MapWords<'a> {
-    pub k: u8,
-    pub d: u8,
-    pub input: &'a str,
-    pub output: &'a str,
-}
-
-/// `sim IN VECTORS OUT`: the names of three files.
-#[derive(Clone, Copy)]
-pub struct SimWords<'a> {
-    pub input: &'a str,
-    pub vectors: &'a str,
-    pub output: &'a str,
-}
-
-/// The command of the words; `None` where they have no reading.
-pub fn command_of(words: &[String]) -> Option<Command<'_>>
+/// The reading of the words; `None` where they have none.
+pub fn reading_of(words: &[String]) -> Option<Reading<'_>>
     ensures { option_map seen result ≡ asked_of (map string_bytes words.now) }
 {
     match words {
@@ -52,13 +25,13 @@ pub fn command_of(words: &[String]) -> Option<Command<'_>>
 }
 
 // The words after `map`, read.
-fn map_of<'a>(k: &str, d: &str, input: &'a str, output: &'a str) -> Option<Command<'a>>
+fn map_of<'a>(k: &str, d: &str, input: &'a str, output: &'a str) -> Option<Reading<'a>>
     ensures { option_map seen result ≡ map_of k.now d.now input.now output.now }
 {
     let k = digit(k, 2, MOST_K)?;
     let d = digit(d, 0, MOST_D)?;
     if are_names(&[input, output]) {
-        Some(Command::Map(MapWords {
+        Some(Reading::Map(MapWords {
             k,
             d,
             input,
@@ -70,11 +43,11 @@ fn map_of<'a>(k: &str, d: &str, input: &'a str, output: &'a str) -> Option<Comma
 }
 
 // The words after `sim`, read.
-fn sim_of<'a>(input: &'a str, vectors: &'a str, output: &'a str) -> Option<Command<'a>>
+fn sim_of<'a>(input: &'a str, vectors: &'a str, output: &'a str) -> Option<Reading<'a>>
     ensures { option_map seen result ≡ sim_of input.now vectors.now output.now }
 {
     if are_names(&[input, vectors, output]) {
-        Some(Command::Sim(SimWords {
+        Some(Reading::Sim(SimWords {
             input,
             vectors,
             output,
@@ -85,11 +58,11 @@ fn sim_of<'a>(input: &'a str, vectors: &'a str, output: &'a str) -> Option<Comma
 }
 
 // The word after `show`, read.
-fn show_of(input: &str) -> Option<Command<'_>>
+fn show_of(input: &str) -> Option<Reading<'_>>
     ensures { option_map seen result ≡ show_of input.now }
 {
     if are_names(&[input]) {
-        Some(Command::Show(input))
+        Some(Reading::Show(input))
     } else {
         None
     }
@@ -123,7 +96,8 @@ fn is_among(name: &str, others: &[&str]) -> bool
 // The number that one decimal digit spells, where it is in the range.
 fn digit(word: &str, least: u8, most: u8) -> Option<u8>
     requires { most ≤ 9 }
-    ensures { result ≡ digit_between least most word.now }
+    ensures number { result ≡ digit_between least most word.now }
+    ensures range { IfSome result (λ n. (least ≤ n) × (n ≤ most)) }
 {
     match word.as_bytes() {
         [byte] if least <= byte.wrapping_sub(b'0') && byte.wrapping_sub(b'0') <= most => {

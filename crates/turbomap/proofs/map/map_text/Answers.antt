@@ -2,7 +2,7 @@ use Rattle.std.proofs.Common.{◌≡◌, ℕ, List, ◌<◌, ◌≤◌, refl, ar
 use Rattle.std.proofs.lemmas.Result.{err_from_is_err_and}
 use Rattle.tm_circuit.specs.Plain.{Plain, widest}
 use Rattle.tm_circuit.specs.Sound.{IsSound}
-use Rattle.blif_read.specs.declared.TheConstants.{SOURCE}
+use Rattle.turbomap.specs.Limits.{source_limits}
 use Rattle.blif_read.specs.Text.{IsCircuitOf}
 use Rattle.blif_read.proofs.SomeCircuit.{same_circuit}
 use Rattle.blif_read.proofs.ShortNames.{short_names}
@@ -14,7 +14,7 @@ use Rattle.turbomap.specs.Mapped.{IsSubject, IsSplitFault, IsReadFault, IsMapFau
 use Rattle.tm_circuit.proofs.Sameness.{sound_same_through}
 use Rattle.turbomap.proofs.map.map_text.Goals as goal
 
-maps_of : (k : ℕ) (text : List ℕ) (source subject : Plain) (mapped : Mapped) → IsCircuitOf SOURCE text source → IsSound source
+maps_of : (k : ℕ) (text : List ℕ) (source subject : Plain) (mapped : Mapped) → IsCircuitOf source_limits text source → IsSound source
     → IsSubject k source subject → IsMappedOf subject mapped
     → Maps k text mapped.text.items mapped.period mapped.tables mapped.registers
 maps_of k text source subject mapped of_text sound split made = record {
@@ -34,14 +34,14 @@ maps_of k text source subject mapped of_text sound split made = record {
   registers_are = made.registers_are;
 }
 
-map_fault_of : (k : ℕ) (text : List ℕ) (source : Plain) (why : MapFault) → IsCircuitOf SOURCE text source → IsSplitFault k source why
+map_fault_of : (k : ℕ) (text : List ℕ) (source : Plain) (why : MapFault) → IsCircuitOf source_limits text source → IsSplitFault k source why
     → IsMapFault k text why
 map_fault_of k text source (map_fault.Text line kind) of_text why = record {
   blame = too_large;
   blamed = record {
     circuit = source;
     of_text = of_text;
-    only = λ c of_c. same_circuit SOURCE text c source of_c of_text;
+    only = λ c of_c. same_circuit source_limits text c source of_c of_text;
     many = why.many;
   };
   said = rw (why.line_is, why.kind_is) refl;
@@ -58,7 +58,7 @@ returns-in_err-source-clause-fault c =
     rw (p.1, p.2) (read_fault_of c.args.k c.args.text.now _ c.in_err-source.ensures.fault)
 
 pub split-requires-clause-names : goal.split-requires-clause-names
-split-requires-clause-names c = short_names SOURCE c.args.text.now c.in_ok-source.source c.in_ok-source.ensures.circuit
+split-requires-clause-names c = short_names source_limits c.args.text.now c.in_ok-source.source c.in_ok-source.ensures.circuit
 
 pub returns-in_err-subject-clause-fault : goal.returns-in_err-subject-clause-fault
 returns-in_err-subject-clause-fault c =

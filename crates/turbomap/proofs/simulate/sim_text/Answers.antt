@@ -4,7 +4,6 @@ use Rattle.turbomap.proofs.simulate.sim_text.Goals as goal
 pub returns-clause-simulates : goal.returns-clause-simulates
 returns-clause-simulates c =
     let product = rw (c.from.ensures, c.steps.ensures, c.outputs.ensures) at c.saturating_mul.ensures in record {
-      short = record { first = c.requires.text; second = c.requires.vectors };
       circuit = c.in_ok-circuit.circuit;
       rows = c.in_ok-rows.rows.rows;
       has = record { of_text = c.in_ok-circuit.ensures.circuit; of_vectors = rw c.inputs.ensures at c.in_ok-rows.ensures.rows };

@@ -1,0 +1,154 @@
+-- Of each command: its refusals exclude each other, and what it makes and accepts.
+use Rattle.std.proofs.Common.{◌≡◌, ◌≤◌, inl, inr, ℕ, Bool, List, [], ◌∷◌, Ok, length, subst, sym, ap, ◌∙◌, arith}
+use Rattle.tm_circuit.specs.Plain.{Plain, input_count}
+use Rattle.tm_sim.specs.Vectors.{vectors_of}
+use Rattle.tm_split.specs.Subject.{subject_of}
+use Rattle.blif_read.proofs.OneCircuit.{excluded}
+use Rattle.blif_read.proofs.SomeCircuit.{same_circuit}
+use Rattle.turbomap.specs.declared.status.Status.{Status}
+use Rattle.turbomap.specs.Command.{Write}
+use Rattle.tm_split.specs.Limits.{most_subject_signals}
+use Rattle.turbomap.specs.Limits.{output_bytes, mapped_limits}
+use Rattle.turbomap.specs.Map.{Blame, fault, too_large, IsMappable, IsBlamed, MapRefuses, MapAccepts, MapMakes, map_command}
+use Rattle.turbomap.specs.Run.{command_of}
+use Rattle.turbomap.specs.Show.{ShowRefuses, ShowAccepts, ShowMakes, show_command}
+use Rattle.turbomap.specs.Simulate.{HasRows, bytes_of, AreFaultyVectors, SimRefuses, SimAccepts, SimMakes, sim_command}
+use Rattle.turbomap.specs.Texts.{IsFaultyText}
+use Rattle.turbomap.specs.Words.{Asked, map_files, sim_files, show_file}
+use Rattle.turbomap.proofs.Statuses.{IsDecided}
+
+-- ---- map
+
+mappable_blamed : (k : ℕ) (blame : Blame) (text : List ℕ) → IsBlamed k text blame → IsMappable k text → ⊥
+mappable_blamed k (fault line kind) text blamed mappable = blamed.none mappable.circuit mappable.of_text
+mappable_blamed k too_large text blamed mappable =
+    let few : length (subject_of k blamed.circuit).drives ≤ most_subject_signals
+    = subst (λ (c : Plain). length (subject_of k c).drives ≤ most_subject_signals) (blamed.only mappable.circuit mappable.of_text) mappable.few in
+    omega (arith, few, blamed.many)
+
+map_status : (k : ℕ) (input : List ℕ) (texts : List (List ℕ)) (s t : Status) (l m : List ℕ) → MapRefuses k input texts s l → MapRefuses k input texts t m → s ≡ t
+map_status k input [] s t l m one other = absurd one
+map_status k input (text ∷ []) s t l m one other = one.status_is ∙ sym other.status_is
+map_status k input (text ∷ more ∷ texts) s t l m one other = absurd one
+
+map_made : (k : ℕ) (input output : List ℕ) (texts : List (List ℕ)) (s : Status) (l : List ℕ) (writes : List Write) (lines : List (List ℕ))
+    → MapRefuses k input texts s l → MapMakes k output texts writes lines → ⊥
+map_made k input output [] s l writes lines refused made = absurd made
+map_made k input output (text ∷ []) s l writes lines refused made =
+    mappable_blamed k refused.blame text refused.blamed (record { circuit = made.maps.source; of_text = made.maps.of_text; few = made.maps.few })
+map_made k input output (text ∷ more ∷ texts) s l writes lines refused made = absurd made
+
+map_accepted : (k : ℕ) (input : List ℕ) (texts : List (List ℕ)) (s : Status) (l : List ℕ) → MapRefuses k input texts s l → MapAccepts k texts → ⊥
+map_accepted k input [] s l refused accepted = absurd accepted
+map_accepted k input (text ∷ []) s l refused accepted = mappable_blamed k refused.blame text refused.blamed accepted
+map_accepted k input (text ∷ more ∷ texts) s l refused accepted = absurd accepted
+
+map_decided : (k : ℕ) (input output : List ℕ) → IsDecided (map_command k input output)
+map_decided k input output = record {
+  one_status = map_status k input;
+  not_made = map_made k input output;
+  not_accepted = map_accepted k input;
+}
+
+-- ---- show
+
+show_status : (input : List ℕ) (texts : List (List ℕ)) (s t : Status) (l m : List ℕ) → ShowRefuses input texts s l → ShowRefuses input texts t m → s ≡ t
+show_status input [] s t l m one other = absurd one
+show_status input (text ∷ []) s t l m one other = one.status_is ∙ sym other.status_is
+show_status input (text ∷ more ∷ texts) s t l m one other = absurd one
+
+show_made : (input : List ℕ) (texts : List (List ℕ)) (s : Status) (l : List ℕ) (writes : List Write) (lines : List (List ℕ))
+    → ShowRefuses input texts s l → ShowMakes texts writes lines → ⊥
+show_made input [] s l writes lines refused made = absurd refused
+show_made input (text ∷ []) s l [] lines refused made = excluded mapped_limits text (refused.number, refused.kind) made.circuit refused.first made.of_text
+show_made input (text ∷ []) s l (write ∷ writes) lines refused made = absurd made
+show_made input (text ∷ more ∷ texts) s l writes lines refused made = absurd refused
+
+show_accepted : (input : List ℕ) (texts : List (List ℕ)) (s : Status) (l : List ℕ) → ShowRefuses input texts s l → ShowAccepts texts → ⊥
+show_accepted input [] s l refused accepted = absurd accepted
+show_accepted input (text ∷ []) s l refused accepted =
+    excluded mapped_limits text (refused.number, refused.kind) accepted.circuit refused.first accepted.of_text
+show_accepted input (text ∷ more ∷ texts) s l refused accepted = absurd accepted
+
+show_decided : (input : List ℕ) → IsDecided (show_command input)
+show_decided input = record {
+  one_status = show_status input;
+  not_made = show_made input;
+  not_accepted = show_accepted input;
+}
+
+-- ---- sim
+
+-- two texts with rows have one circuit and the same rows
+same_bytes : (text vectors : List ℕ) (c d : Plain) (xs ys : List (List Bool)) → HasRows text vectors c xs → HasRows text vectors d ys
+    → bytes_of c xs ≡ bytes_of d ys
+same_bytes text vectors c d xs ys one other =
+    let same : c ≡ d = same_circuit mapped_limits text c d one.of_text other.of_text in
+    let there : vectors_of (input_count c.drives) vectors ≡ Ok ys = subst (λ (e : Plain). vectors_of (input_count e.drives) vectors ≡ Ok ys) (sym same) other.of_vectors in
+    let rows : xs ≡ ys = cc (one.of_vectors, there) in
+    ap (λ (e : Plain). bytes_of e xs) same ∙ ap (λ (zs : List (List Bool)). bytes_of d zs) rows
+
+-- texts that have rows are at no fault
+faulty_rows : (input vectors text rows : List ℕ) (s : Status) (l : List ℕ) (c : Plain) (bits : List (List Bool)) → HasRows text rows c bits
+    → AreFaultyVectors vectors text rows s l → ⊥
+faulty_rows input vectors text rows s l c bits has faulty =
+    let why = faulty.fault in
+    let same : c ≡ why.circuit = same_circuit mapped_limits text c why.circuit has.of_text why.of_text in
+    let there : vectors_of (input_count why.circuit.drives) rows ≡ Ok bits = subst (λ (e : Plain). vectors_of (input_count e.drives) rows ≡ Ok bits) same has.of_vectors in
+    cc (there, why.first)
+
+sim_status : (input vectors output : List ℕ) (texts : List (List ℕ)) (s t : Status) (l m : List ℕ)
+    → SimRefuses input vectors output texts s l → SimRefuses input vectors output texts t m → s ≡ t
+sim_status input vectors output [] s t l m one other = absurd one
+sim_status input vectors output (text ∷ []) s t l m one other = absurd one
+sim_status input vectors output (text ∷ rows ∷ more ∷ texts) s t l m one other = absurd one
+sim_status input vectors output (text ∷ rows ∷ []) s t l m (inl one) (inl other) = one.status_is ∙ sym other.status_is
+sim_status input vectors output (text ∷ rows ∷ []) s t l m (inl one) (inr (inl other)) = one.status_is ∙ sym other.status_is
+sim_status input vectors output (text ∷ rows ∷ []) s t l m (inl one) (inr (inr other)) =
+    absurd (excluded mapped_limits text (one.number, one.kind) other.long.circuit one.first other.long.has.of_text)
+sim_status input vectors output (text ∷ rows ∷ []) s t l m (inr (inl one)) (inl other) = one.status_is ∙ sym other.status_is
+sim_status input vectors output (text ∷ rows ∷ []) s t l m (inr (inl one)) (inr (inl other)) = one.status_is ∙ sym other.status_is
+sim_status input vectors output (text ∷ rows ∷ []) s t l m (inr (inl one)) (inr (inr other)) =
+    absurd (faulty_rows input vectors text rows s l other.long.circuit other.long.rows other.long.has one)
+sim_status input vectors output (text ∷ rows ∷ []) s t l m (inr (inr one)) (inl other) =
+    absurd (excluded mapped_limits text (other.number, other.kind) one.long.circuit other.first one.long.has.of_text)
+sim_status input vectors output (text ∷ rows ∷ []) s t l m (inr (inr one)) (inr (inl other)) =
+    absurd (faulty_rows input vectors text rows t m one.long.circuit one.long.rows one.long.has other)
+sim_status input vectors output (text ∷ rows ∷ []) s t l m (inr (inr one)) (inr (inr other)) = one.status_is ∙ sym other.status_is
+
+few_refused : (input vectors output text rows : List ℕ) (s : Status) (l : List ℕ) (c : Plain) (bits : List (List Bool))
+    → HasRows text rows c bits → bytes_of c bits ≤ output_bytes → SimRefuses input vectors output (text ∷ rows ∷ []) s l → ⊥
+few_refused input vectors output text rows s l c bits has few (inl refused) = excluded mapped_limits text (refused.number, refused.kind) c refused.first has.of_text
+few_refused input vectors output text rows s l c bits has few (inr (inl refused)) = faulty_rows input vectors text rows s l c bits has refused
+few_refused input vectors output text rows s l c bits has few (inr (inr refused)) =
+    let same = same_bytes text rows c refused.long.circuit bits refused.long.rows has refused.long.has in omega (arith, few, refused.long.long, same)
+
+sim_made : (input vectors output : List ℕ) (texts : List (List ℕ)) (s : Status) (l : List ℕ) (writes : List Write) (lines : List (List ℕ))
+    → SimRefuses input vectors output texts s l → SimMakes output texts writes lines → ⊥
+sim_made input vectors output [] s l writes lines refused made = absurd made
+sim_made input vectors output (text ∷ []) s l writes lines refused made = absurd made
+sim_made input vectors output (text ∷ rows ∷ []) s l writes lines refused made =
+    few_refused input vectors output text rows s l made.simulates.circuit made.simulates.rows made.simulates.has made.simulates.few refused
+sim_made input vectors output (text ∷ rows ∷ more ∷ texts) s l writes lines refused made = absurd made
+
+sim_accepted : (input vectors output : List ℕ) (texts : List (List ℕ)) (s : Status) (l : List ℕ)
+    → SimRefuses input vectors output texts s l → SimAccepts texts → ⊥
+sim_accepted input vectors output [] s l refused accepted = absurd accepted
+sim_accepted input vectors output (text ∷ []) s l refused accepted = absurd accepted
+sim_accepted input vectors output (text ∷ rows ∷ []) s l refused accepted =
+    few_refused input vectors output text rows s l accepted.circuit accepted.rows accepted.has accepted.few refused
+sim_accepted input vectors output (text ∷ rows ∷ more ∷ texts) s l refused accepted = absurd accepted
+
+sim_decided : (input vectors output : List ℕ) → IsDecided (sim_command input vectors output)
+sim_decided input vectors output = record {
+  one_status = sim_status input vectors output;
+  not_made = sim_made input vectors output;
+  not_accepted = sim_accepted input vectors output;
+}
+
+-- ---- whatever is asked for
+
+pub decided : (asked : Asked) → IsDecided (command_of asked)
+decided (map_files k d input output) = map_decided k input output
+decided (sim_files input vectors output) = sim_decided input vectors output
+decided (show_file input) = show_decided input

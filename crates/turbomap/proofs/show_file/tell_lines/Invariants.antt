@@ -1,7 +1,0 @@
-use Rattle.std.proofs.Common.{map}
-use Rattle.turbomap.proofs.ShowRuns.{HaveSaid}
-use Rattle.turbomap.proofs.show_file.tell_lines.Given as goal
-
-abbrev pub invariant-loop-line : goal.invariant-loop-line
-invariant-loop-line g l =
-    HaveSaid (g.W.Say.said l.fn.say) (g.W.Say.said l.say) (g.W.Say.faults l.fn.say) (g.W.Say.faults l.say) (map (λ line. line.items) l.lines) l.line-index
