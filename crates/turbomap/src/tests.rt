@@ -145,9 +145,18 @@ fn end_with(
         given.push(String::from_str(alloc, word)?)?;
     }
     let mut slots = Vec::new(alloc);
-    slots.push(slot(alloc, "t.blif", Some(text))?)?;
-    slots.push(slot(alloc, "v", Some(vectors))?)?;
-    slots.push(slot(alloc, "o.blif", None)?)?;
+    slots.push(Slot {
+        name: String::from_str(alloc, "t.blif")?,
+        bytes: Some(Vec::from_slice(alloc, text)?),
+    })?;
+    slots.push(Slot {
+        name: String::from_str(alloc, "v")?,
+        bytes: Some(Vec::from_slice(alloc, vectors)?),
+    })?;
+    slots.push(Slot {
+        name: String::from_str(alloc, "o.blif")?,
+        bytes: None,
+    })?;
     let mut store = MemStore::new(slots, Vec::from_slice(alloc, failing)?);
     let mut say = MemSay::new(alloc, 200, Vec::from_slice(alloc, silent)?)?;
     let status = run(alloc, &given, &mut store, &mut say);
@@ -155,16 +164,6 @@ fn end_with(
         status,
         said: Vec::from_slice(alloc, say.said())?,
         out: Vec::from_slice(alloc, store.held("o.blif").unwrap_or(b"nothing"))?,
-    })
-}
-
-fn slot(alloc: Global, name: &str, bytes: Option<&[u8]>) -> Result<Slot, Fail> {
-    Ok(Slot {
-        name: String::from_str(alloc, name)?,
-        bytes: match bytes {
-            Some(bytes) => Some(Vec::from_slice(alloc, bytes)?),
-            None => None,
-        },
     })
 }
 
