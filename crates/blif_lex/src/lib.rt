@@ -5,11 +5,9 @@
 
 mod bytes;
 mod cuts;
-pub mod fault;
-pub mod lines;
+mod fault;
+mod lines;
 mod rules;
-#[cfg(test)]
-mod tests;
 
 pub use fault::{LexFault, LexKind};
 pub use lines::Lines;

@@ -8,9 +8,9 @@ ghost use Rattle.tm_circuit.specs.Plain.{Plain};
 ghost use Rattle.blif_read.specs.Text.{IsCircuitOf, IsFaultOf, OnText};
 
 mod clock;
-pub mod fault;
+mod fault;
 mod heads;
-pub mod keyword;
+mod keyword;
 pub mod laws;
 mod names;
 mod order;
@@ -18,9 +18,7 @@ mod parts;
 mod rows;
 mod signals;
 mod statements;
-#[cfg(test)]
-mod tests;
-pub mod unit;
+mod unit;
 mod uses;
 mod words;
 

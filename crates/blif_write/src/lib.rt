@@ -14,8 +14,6 @@ ghost use Rattle.blif_write.specs.Even.{IsEvenDrive};
 ghost use Rattle.blif_write.specs.Text.{further_word, line_text, lines_text, name_of, names_of, with_clock, inputs_line, outputs_line, clock_lines, control_words, latch_lines, gate_lines, all_lines, row_words, place_byte, bit_word, text_of};
 
 pub mod laws;
-#[cfg(test)]
-mod tests;
 
 use std::alloc::Global;
 use tm_bits::{Cover, NoMemory, Place};

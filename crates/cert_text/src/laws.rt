@@ -15,10 +15,12 @@ pub fn one_answer()
 
 /// A text that has a certificate has no fault, and a text with a fault has no certificate.
 pub fn not_both()
-    ensures { (text : List ℕ) (c : Certificate) (line : ℕ) (kind : CertKind) → IsCertificateOf text c → IsFirstFault text line kind → ⊥ }
+    ensures { (text : List ℕ) (c : Certificate) (line : ℕ) (kind : CertKind) → IsCertificateOf text c
+        → IsFirstFault text line kind → ⊥ }
 {}
 
 /// Certificates that can be spelled and have the same text are the same: nothing has a second spelling.
 pub fn one_spelling()
-    ensures { (c other : Certificate) → HasSpelling c → HasSpelling other → certificate_text c ≡ certificate_text other → c ≡ other }
+    ensures { (c other : Certificate) → HasSpelling c → HasSpelling other → certificate_text c ≡ certificate_text other
+        → c ≡ other }
 {}

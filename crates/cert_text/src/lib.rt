@@ -3,16 +3,14 @@
 //! Each certificate has one text; a text is read line by line, and no number in it makes room by itself.
 #![tactic(auto)]
 
-pub mod cert;
-pub mod fault;
+mod cert;
+mod fault;
 mod keyword;
 pub mod laws;
 mod lines;
-pub mod reading;
-#[cfg(test)]
-mod tests;
+mod reading;
 mod words;
-pub mod writing;
+mod writing;
 
 pub use cert::Cert;
 pub use fault::{CertFault, CertKind};

@@ -3,10 +3,10 @@
 //! Also the one error that every allocating call shares, `NoMemory`.
 #![tactic(auto)]
 
-pub mod cover;
+mod cover;
 pub mod limits;
-pub mod memory;
-pub mod table;
+mod memory;
+mod table;
 
 pub use cover::{Cover, Place, Row};
 pub use memory::NoMemory;
@@ -14,6 +14,3 @@ pub use table::{Table, row_bits, row_number};
 
 /// The most inputs that a table can have, and so the greatest K.
 pub const MOST_K: u8 = 8;
-
-#[cfg(test)]
-mod tests;

@@ -32,6 +32,10 @@ is_waiting Done = false
 abbrev pub AreDone : List Mark → List ℕ → ℕ → ℕ → Type 0
 AreDone marks pins from upto = (k : ℕ) → from ≤ k → k < upto → mark_at marks (slice_index pins k) ≡ Done
 
+-- The place of the first pin from a place on that is not done.
+abbrev pub IsFirstWaiting : List Mark → List ℕ → ℕ → ℕ → Type 0
+IsFirstWaiting marks pins from place = (place < length pins) × AreDone marks pins from place × (mark_at marks (slice_index pins place) ≢ Done)
+
 -- The gates of a trail, the newest first.
 abbrev pub gates_of : List Frame → List ℕ
 gates_of trail = map (λ f. f.gate) trail

@@ -1,12 +1,11 @@
 // The ranks of all signals and an order of the gates, by one descent from gates to their pins.
 // The trail of the descent is the circle where there is one.
 
-ghost use Rattle.std.specs.Prelude.{◌≡◌, ◌≢◌, ℕ, ◌+◌, ◌<◌, ◌≤◌, ◌∷◌, length, map, set, reverse, slice_index, All, IfOk, OnOk, MatchOption, MatchBool, vec_len};
+ghost use Rattle.std.specs.Prelude.{◌≡◌, ℕ, ◌+◌, ◌<◌, ◌≤◌, ◌∷◌, length, map, set, reverse, slice_index, All, IfOk, OnOk, MatchOption, MatchBool, vec_len};
 ghost use Rattle.tm_circuit.specs.Plain.{drive_of, pins_of, greatest, gate_count};
 ghost use Rattle.tm_circuit.specs.Chain.{HasCircle};
 ghost use Rattle.tm_circuit.specs.Sound.{ReadsBelow};
-ghost use Rattle.tm_circuit.specs.Descent.{first_mark_of, mark_at, AreDone, Descends, IsAtRest, Opens, Finishes, Turns, Visits, IsRanking};
-ghost use Rattle.tm_circuit.specs.declared.depths.Mark.TheVariants.{Done};
+ghost use Rattle.tm_circuit.specs.Descent.{first_mark_of, AreDone, IsFirstWaiting, Descends, IsAtRest, Opens, Finishes, Turns, Visits, IsRanking};
 
 use crate::parts::{Driver, Signal};
 use std::alloc::Global;
@@ -88,7 +87,8 @@ impl Descent {
         requires reads { All (λ d. ReadsBelow (length drivers.now) (drive_of d)) drivers.now }
         requires root { root < length drivers.now }
         requires rest { IsAtRest (map drive_of drivers.now) self.old }
-        ensures { IfOk result (λ circle. MatchBool circle (HasCircle (map drive_of drivers.now)) (Visits (map drive_of drivers.now) self.old self.new root)) }
+        ensures { IfOk result (λ circle. MatchBool circle (HasCircle (map drive_of drivers.now))
+            (Visits (map drive_of drivers.now) self.old self.new root)) }
     {
         if let Mark::Fresh = self.marks[root.0 as usize] {
             self.open(root)?;
@@ -106,8 +106,10 @@ impl Descent {
     fn turn(&mut self, drivers: &[Driver], gate: Signal, from: usize) -> Result<bool, NoMemory>
         requires few { length drivers.now ≤ 900000 }
         requires reads { All (λ d. ReadsBelow (length drivers.now) (drive_of d)) drivers.now }
-        requires descends { Descends (map drive_of drivers.now) self.old (record { gate = gate; pin = from } ∷ reverse self.old.trail.items) }
-        ensures { IfOk result (λ circle. MatchBool circle (HasCircle (map drive_of drivers.now)) (Turns (map drive_of drivers.now) self.old self.new)) }
+        requires descends { Descends (map drive_of drivers.now) self.old
+            (record { gate = gate; pin = from } ∷ reverse self.old.trail.items) }
+        ensures { IfOk result (λ circle. MatchBool circle (HasCircle (map drive_of drivers.now))
+            (Turns (map drive_of drivers.now) self.old self.new)) }
     {
         let pins = pins(&drivers[gate.0 as usize]);
         match waiting_pin(pins, from, &self.marks) {
@@ -174,7 +176,7 @@ pub fn pins(driver: &Driver) -> &[Signal]
 /// The place of the first pin from a place on that is not done.
 fn waiting_pin(pins: &[Signal], from: usize, marks: &[Mark]) -> Option<usize>
     requires { All (λ p. p < length marks.now) pins.now }
-    ensures { MatchOption result (AreDone marks.now pins.now from (length pins.now)) (λ k. (k < length pins.now) × AreDone marks.now pins.now from k × (mark_at marks.now (slice_index pins.now k) ≢ Done)) }
+    ensures { MatchOption result (AreDone marks.now pins.now from (length pins.now)) (IsFirstWaiting marks.now pins.now from) }
 {
     for place in from..pins.len() {
         let pin = pins[place];

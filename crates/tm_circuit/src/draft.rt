@@ -77,7 +77,8 @@ fn add_latches(
     drivers: &mut Vec<Driver>,
 ) -> Result<(), NoMemory>
     ensures names { OnOk result (names.new.items ≡ names.old.items ++ map (λ l. l.name) latches.items) }
-    ensures drives { OnOk result (map drive_of drivers.new.items ≡ map drive_of drivers.old.items ++ map (λ l. latch l.next l.init) latches.items) }
+    ensures drives { OnOk result (map drive_of drivers.new.items ≡ map drive_of drivers.old.items
+        ++ map (λ l. latch l.next l.init) latches.items) }
 {
     for LatchPart { name, next, init } in latches {
         names.push(name)?;
@@ -92,7 +93,8 @@ fn add_gates(
     drivers: &mut Vec<Driver>,
 ) -> Result<(), NoMemory>
     ensures names { OnOk result (names.new.items ≡ names.old.items ++ map (λ g. g.name) gates.items) }
-    ensures drives { OnOk result (map drive_of drivers.new.items ≡ map drive_of drivers.old.items ++ map (λ g. gate g.pins.items g.cover) gates.items) }
+    ensures drives { OnOk result (map drive_of drivers.new.items ≡ map drive_of drivers.old.items
+        ++ map (λ g. gate g.pins.items g.cover) gates.items) }
 {
     for GatePart { name, pins, cover } in gates {
         names.push(name)?;

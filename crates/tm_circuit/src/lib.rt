@@ -4,17 +4,15 @@
 #![tactic(auto)]
 
 mod build;
-pub mod circuit;
+mod circuit;
 mod depths;
 mod distinct;
 mod draft;
 mod extent;
 mod lawful;
 pub mod laws;
-pub mod parts;
+mod parts;
 mod sources;
-#[cfg(test)]
-mod tests;
 
 pub use circuit::{Circuit, CircuitFault};
 pub use parts::{Clock, Driver, Edge, GatePart, LatchPart, Name, Parts, Signal};

@@ -3,9 +3,7 @@ pub mod Nets
 pub mod Cuts
 pub mod Barriers
 pub mod Judges
-pub mod Ladders
 pub mod Founds
 pub mod Flows
 pub mod Searches
 pub mod Starts
-pub mod TestNets

@@ -8,15 +8,11 @@ mod cut;
 mod flow;
 mod grow;
 mod judge;
-#[cfg(test)]
-mod judge_tests;
 mod known;
 mod laws;
 mod net;
 mod search;
 mod searcher;
-#[cfg(test)]
-mod tests;
 mod used;
 
 pub use cut::{cut_or_walks, cut_or_walks_from};

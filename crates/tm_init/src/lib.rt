@@ -5,8 +5,6 @@
 
 mod bits;
 pub mod laws;
-pub mod starts;
-#[cfg(test)]
-mod tests;
+mod starts;
 
 pub use starts::{Starts, first_steps};

@@ -7,8 +7,6 @@ pub mod laws;
 mod names;
 mod parts;
 mod runs;
-#[cfg(test)]
-mod tests;
 
 pub use names::{has_names_within, name_of};
 pub use parts::{add_signal, frame};

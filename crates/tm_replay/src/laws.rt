@@ -27,15 +27,17 @@ pub fn next_is_below()
 /// At each moment of a replay for a target, every lawful mapping of period at most the target has each of its tables no
 /// better than the label of its gate.
 pub fn labels_bound_tables()
-    ensures { (base : ℕ) (need : ℕ → ℕ) (c : Plain) (k d target : ℕ) (earlier later : List PlainDrop) (tables : List Table) → IsSound c
-        → Replays base c k target (first_labels c.drives d target) (earlier ++ later) → IsLawfulFrom base need c k d tables
-        → HasChainsWithin tables target → AreNoBetter tables (labels_after target (first_labels c.drives d target) earlier) }
+    ensures { (base : ℕ) (need : ℕ → ℕ) (c : Plain) (k d target : ℕ) (earlier later : List PlainDrop) (tables : List Table)
+        → IsSound c → Replays base c k target (first_labels c.drives d target) (earlier ++ later)
+        → IsLawfulFrom base need c k d tables → HasChainsWithin tables target
+        → AreNoBetter tables (labels_after target (first_labels c.drives d target) earlier) }
 {}
 
 /// A refuted target is below the period of every lawful mapping.
 pub fn refuted_is_below()
-    ensures { (base : ℕ) (need : ℕ → ℕ) (c : Plain) (k d target : ℕ) (drops : List PlainDrop) (tables : List Table) (p : ℕ) → IsSound c
-        → RefutesFrom base need c k d target drops → IsLawfulFrom base need c k d tables → IsPeriodOf tables p → target < p }
+    ensures { (base : ℕ) (need : ℕ → ℕ) (c : Plain) (k d target : ℕ) (drops : List PlainDrop) (tables : List Table) (p : ℕ)
+        → IsSound c → RefutesFrom base need c k d target drops → IsLawfulFrom base need c k d tables
+        → IsPeriodOf tables p → target < p }
 {}
 
 /// A replay for a target has at most as many drops as there are gates, times the lags, times the target; so none for the

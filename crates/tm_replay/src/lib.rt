@@ -3,15 +3,13 @@
 //! The definitions stand in specs/, and the laws of them beside the code.
 #![tactic(auto)]
 
-pub mod drops;
-pub mod fault;
-pub mod label;
+mod drops;
+mod fault;
+mod label;
 pub mod laws;
-pub mod lost;
+mod lost;
 mod node;
-pub mod served;
-#[cfg(test)]
-mod tests;
+mod served;
 
 pub use drops::{replay, replay_from};
 pub use fault::{DropFault, DropWhy, Replayed};

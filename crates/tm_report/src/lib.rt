@@ -11,8 +11,6 @@ pub mod laws;
 mod line;
 mod onward;
 mod slack;
-#[cfg(test)]
-mod tests;
 
 use crate::chain::first_chain;
 use crate::line::head_lines;

@@ -3,10 +3,7 @@
 //! Rows are read from a text of `0` and `1`, one line for each step, and written as one.
 #![tactic(auto)]
 
-pub mod machine;
-#[cfg(test)]
-mod tests;
+mod machine;
 pub mod vectors;
 
 pub use machine::Machine;
-pub use vectors::{VectorFault, VectorKind, Vectors};

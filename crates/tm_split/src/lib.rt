@@ -11,8 +11,6 @@ mod names;
 mod parts;
 mod piece;
 mod pieces;
-#[cfg(test)]
-mod tests;
 
 pub use circuit::{SplitFault, subject};
 pub use count::MOST_SUBJECT_SIGNALS;

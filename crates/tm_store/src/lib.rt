@@ -3,13 +3,13 @@
 //! file system and standard output, for the program.
 #![tactic(auto)]
 
-pub mod file_store;
-pub mod mem_say;
-pub mod mem_store;
-pub mod out_say;
-pub mod say;
-pub mod slot;
-pub mod store;
+mod file_store;
+mod mem_say;
+mod mem_store;
+mod out_say;
+mod say;
+mod slot;
+mod store;
 
 pub use file_store::FileStore;
 pub use mem_say::MemSay;
@@ -18,6 +18,3 @@ pub use out_say::OutSay;
 pub use say::{Say, SayFailed};
 pub use slot::Slot;
 pub use store::{Store, StoreFault, WriteFailed};
-
-#[cfg(test)]
-mod tests;

@@ -7,8 +7,6 @@ mod classes;
 mod join;
 pub mod laws;
 mod parts;
-#[cfg(test)]
-mod tests;
 mod twin;
 
 pub use join::joined;

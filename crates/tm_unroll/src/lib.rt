@@ -4,23 +4,17 @@
 //! The definitions and laws of nodes, walks, covers, lawful mappings and chains stand beside them.
 #![tactic(auto)]
 
-#[cfg(test)]
-mod chain_tests;
-pub mod chains;
+mod chains;
 mod cover;
 pub mod cover_laws;
-pub mod lawfulness;
+mod lawfulness;
 pub mod laws;
 mod leaves;
 mod lookup;
 pub mod net_laws;
-pub mod node;
+mod node;
 pub mod node_laws;
-pub mod replace;
-#[cfg(test)]
-mod replace_tests;
-#[cfg(test)]
-mod tests;
+mod replace;
 
 pub use chains::chain;
 pub use lawfulness::lawful;

@@ -4,7 +4,7 @@ ghost use Rattle.std.specs.Prelude.{◌≡◌};
 ghost use Rattle.turbomap.specs.Kind.{kind_name, vector_kind_name};
 
 use blif_read::BlifKind;
-use tm_sim::VectorKind;
+use tm_sim::vectors::VectorKind;
 
 /// The name of the kind: that of its variant.
 pub fn kind_name(kind: BlifKind) -> &'static str

@@ -15,7 +15,8 @@ use std::alloc::Global;
 use thiserror::Error;
 use tm_bits::NoMemory;
 use tm_circuit::Circuit;
-use tm_sim::{Machine, VectorFault, VectorKind, Vectors, vectors};
+use tm_sim::vectors::{VectorFault, VectorKind, Vectors};
+use tm_sim::{Machine, vectors};
 
 /// The output rows of a simulation as a vectors text, and their number.
 #[derive(Drop)]
