@@ -1,0 +1,3 @@
+pub mod Cuts
+pub mod Leading
+pub mod Merges
