@@ -1,0 +1,11 @@
+pub mod MarkLemmas
+pub mod ServedLemmas
+pub mod LabelLemmas
+pub mod KeepLemmas
+pub mod FallLemmas
+pub mod StepLemmas
+pub mod TurnLemmas
+pub mod WatchLemmas
+pub mod QueueLemmas
+pub mod NeedLemmas
+pub mod WorkLemmas

@@ -1,0 +1,7 @@
+pub mod Settled
+pub mod Marks
+pub mod Waiting
+pub mod Watched
+pub mod Steps
+pub mod Working
+pub mod Keeping
