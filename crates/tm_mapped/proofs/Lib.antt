@@ -1,0 +1,17 @@
+pub mod ListLemmas
+pub mod NodeLemmas
+pub mod StandLemmas
+pub mod DriveLemmas
+pub mod CircleLemmas
+pub mod ValueLemmas
+pub mod FunctionLemmas
+pub mod RunLemmas
+pub mod SameLemmas
+pub mod NameLemmas
+pub mod DistinctLemmas
+pub mod PeriodLemmas
+pub mod CountLemmas
+pub mod OneLemmas
+pub mod AloneLemmas
+pub mod FitLemmas
+pub mod BuildLemmas
