@@ -1,0 +1,4 @@
+pub mod Limits
+pub mod Registers
+pub mod Layouts
+pub mod Making
