@@ -21,14 +21,16 @@ expect() {
 }
 
 said() {
-    expect "$1 of $2" "$3" "$(./turbomap map "$1" 0 "examples/$2.blif" "$folder/$2.blif")"
+    expect "map $1 $2 of $3" "$4" "$(./turbomap map "$1" "$2" "examples/$3.blif" "$folder/$3.blif")"
 }
 
-said 2 toggle "period 1 tables 1 registers 1"
-said 2 two_levels "period 2 tables 3 registers 5"
-said 2 ring_of_latches "period 0 tables 0 registers 2"
-said 2 counter "period 1 tables 2 registers 2"
-said 3 traffic_light "period 1 tables 5 registers 2"
+said 2 0 toggle "period 1 tables 1 registers 1"
+said 2 0 two_levels "period 2 tables 3 registers 5"
+said 2 1 two_levels "period 1 tables 3 registers 3"
+said 4 0 two_levels "period 1 tables 1 registers 5"
+said 2 0 ring_of_latches "period 0 tables 0 registers 2"
+said 2 0 counter "period 1 tables 2 registers 2"
+said 3 0 traffic_light "period 1 tables 5 registers 2"
 
 expect "text of toggle" "$(grep -v '^#' examples/toggle.blif | sed 's/^10 1$/x/; s/^01 1$/10 1/; s/^x$/01 1/')" "$(cat "$folder/toggle.blif")"
 

@@ -1,6 +1,6 @@
 -- From what ends a preparation to the cause of a status.
-use Rattle.std.proofs.Common.{◌≡◌, ◌≤◌, inl, inr, ℕ, List, [], ◌∷◌, Option, None, Some, Result, Ok, Err, IfOk, IfErr, refl, subst, sym}
-use Rattle.std.specs.Prelude.{IfSome, string_bytes}
+use Rattle.std.proofs.Common.{◌≡◌, ◌≤◌, inl, inr, ℕ, List, Option, Some, Result, IfOk, IfErr, refl, subst}
+use Rattle.std.specs.Prelude.{IfSome}
 use Rattle.std.proofs.lemmas.Result.{IfOk-weaker, IfErr-weaker}
 use Rattle.tm_store.specs.Faults.{Rose}
 use Rattle.tm_store.specs.Files.{Files}

@@ -13,7 +13,6 @@ use Rattle.turbomap.specs.Map.{Blame, fault, too_large, IsMappable, IsBlamed, Ma
 use Rattle.turbomap.specs.Run.{command_of}
 use Rattle.turbomap.specs.Show.{ShowRefuses, ShowAccepts, ShowMakes, show_command}
 use Rattle.turbomap.specs.Simulate.{HasRows, bytes_of, AreFaultyVectors, SimRefuses, SimAccepts, SimMakes, sim_command}
-use Rattle.turbomap.specs.Texts.{IsFaultyText}
 use Rattle.turbomap.specs.Words.{Asked, map_files, sim_files, show_file}
 use Rattle.turbomap.proofs.Statuses.{IsDecided}
 
@@ -31,22 +30,22 @@ map_status k input [] s t l m one other = absurd one
 map_status k input (text ∷ []) s t l m one other = one.status_is ∙ sym other.status_is
 map_status k input (text ∷ more ∷ texts) s t l m one other = absurd one
 
-map_made : (k : ℕ) (input output : List ℕ) (texts : List (List ℕ)) (s : Status) (l : List ℕ) (writes : List Write) (lines : List (List ℕ))
-    → MapRefuses k input texts s l → MapMakes k output texts writes lines → ⊥
-map_made k input output [] s l writes lines refused made = absurd made
-map_made k input output (text ∷ []) s l writes lines refused made =
+map_made : (k d : ℕ) (input output : List ℕ) (texts : List (List ℕ)) (s : Status) (l : List ℕ) (writes : List Write) (lines : List (List ℕ))
+    → MapRefuses k input texts s l → MapMakes k d output texts writes lines → ⊥
+map_made k d input output [] s l writes lines refused made = absurd made
+map_made k d input output (text ∷ []) s l writes lines refused made =
     mappable_blamed k refused.blame text refused.blamed (record { circuit = made.maps.source; of_text = made.maps.of_text; few = made.maps.few })
-map_made k input output (text ∷ more ∷ texts) s l writes lines refused made = absurd made
+map_made k d input output (text ∷ more ∷ texts) s l writes lines refused made = absurd made
 
 map_accepted : (k : ℕ) (input : List ℕ) (texts : List (List ℕ)) (s : Status) (l : List ℕ) → MapRefuses k input texts s l → MapAccepts k texts → ⊥
 map_accepted k input [] s l refused accepted = absurd accepted
 map_accepted k input (text ∷ []) s l refused accepted = mappable_blamed k refused.blame text refused.blamed accepted
 map_accepted k input (text ∷ more ∷ texts) s l refused accepted = absurd accepted
 
-map_decided : (k : ℕ) (input output : List ℕ) → IsDecided (map_command k input output)
-map_decided k input output = record {
+map_decided : (k d : ℕ) (input output : List ℕ) → IsDecided (map_command k d input output)
+map_decided k d input output = record {
   one_status = map_status k input;
-  not_made = map_made k input output;
+  not_made = map_made k d input output;
   not_accepted = map_accepted k input;
 }
 
@@ -149,6 +148,6 @@ sim_decided input vectors output = record {
 -- ---- whatever is asked for
 
 pub decided : (asked : Asked) → IsDecided (command_of asked)
-decided (map_files k d input output) = map_decided k input output
+decided (map_files k d input output) = map_decided k d input output
 decided (sim_files input vectors output) = sim_decided input vectors output
 decided (show_file input) = show_decided input

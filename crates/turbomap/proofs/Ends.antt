@@ -1,5 +1,5 @@
 -- From how the last part of a command ended to how the command ended.
-use Rattle.std.proofs.Common.{◌≡◌, ◌≤◌, ◌⊎◌, inl, inr, ℕ, List, [], ◌∷◌, ◌++◌, Option, map, refl, subst, sym, ap, ◌∙◌}
+use Rattle.std.proofs.Common.{◌≡◌, ◌≤◌, inl, inr, ℕ, List, [], ◌∷◌, Option, map, subst, sym, ap, ◌∙◌}
 use Rattle.std.specs.Prelude.{string_bytes}
 use Rattle.std.proofs.lemmas.List.{map-append}
 use Rattle.tm_store.specs.Faults.{Rose}
@@ -10,8 +10,7 @@ use Rattle.turbomap.specs.declared.refusal.Refusal.{Refusal}
 use Rattle.turbomap.specs.declared.refusal.Refusal.TheVariants as refusal
 use Rattle.turbomap.specs.declared.status.Status.{Status}
 use Rattle.turbomap.specs.declared.status.Status.TheVariants as status
-use Rattle.turbomap.specs.Command.{Write, Command, Stored, Spoken, Around, Says, IsUnchanged, IsChangedBy, IsWritten, IsDone, FailsToWrite, FailsToSay, Runs}
-use Rattle.turbomap.specs.Line.{unwritten_line}
+use Rattle.turbomap.specs.Command.{Write, Command, Stored, Spoken, Says, IsUnchanged, IsChangedBy, IsWritten, FailsToWrite, Runs}
 use Rattle.turbomap.specs.Prepared.{seen, writes_of, lines_of, status_of, line_of, IsReady, HasCause, IsUnwritten, IsDelivered}
 use Rattle.turbomap.proofs.Lines.{rose_later}
 

@@ -1,5 +1,5 @@
 -- Which statuses of a command come, from what each says, for every command whose refusals exclude each other and its work.
-use Rattle.std.proofs.Common.{◌≡◌, ◌⊎◌, inl, inr, ℕ, List, [], ◌∷◌, ◌++◌, Option, None, Some, true, false, map, length, refl, subst, ap, sym, arith}
+use Rattle.std.proofs.Common.{◌≡◌, ◌⊎◌, inl, inr, ℕ, List, [], ◌∷◌, ◌++◌, Option, None, Some, true, false, length, refl, subst, ap, sym, arith}
 use Rattle.std.specs.Prelude.{IsSome}
 use Rattle.std.specs.List.{AllByRecursion}
 use Rattle.tm_store.specs.Faults.{Rose}

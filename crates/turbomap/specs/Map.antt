@@ -10,6 +10,10 @@ use Rattle.blif_read.specs.Text.{IsCircuitOf, IsFaultOf}
 use Rattle.blif_write.specs.Text.{text_of}
 use Rattle.tm_split.specs.Limits.{most_subject_signals}
 use Rattle.tm_split.specs.Subject.{subject_of}
+use Rattle.tm_twins.specs.Joined.{IsJoined}
+use Rattle.tm_unroll.specs.Mappings.{Table, IsLawful}
+use Rattle.tm_unroll.specs.Chains.{IsPeriodOf}
+use Rattle.tm_mapped.specs.Mapped.{IsMapped}
 use Rattle.turbomap.specs.declared.status.Status.{Status}
 use Rattle.turbomap.specs.declared.status.Status.TheVariants.{BadText}
 use Rattle.turbomap.specs.Command.{Write, Command, input_of, write_of}
@@ -23,10 +27,26 @@ pub record IsMappable (k : ℕ) (text : List ℕ) : Type 0 where
   pub of_text : IsCircuitOf source_limits text circuit
   pub few : length (subject_of k circuit).drives ≤ most_subject_signals
 
--- A text that maps another one: it is the one spelling of its circuit, the only one that it has; the circuits of the two
--- are Same, and the one mapped has tables of at most `k` pins, this period and these numbers of tables and registers. Both
--- are sound, so that each has a trace for every list of rows, and exactly one: without that Same might say nothing.
-pub record Maps (k : ℕ) (text bytes : List ℕ) (period tables registers : ℕ) : Type 0 where
+-- A mapping of a circuit is lawful for K and D and has this period, and no lawful mapping has a smaller one.
+pub record IsLeastMapping (c : Plain) (k d : ℕ) (mapping : List Table) (period : ℕ) : Type 0 where
+  pub lawful : IsLawful c k d mapping
+  pub period_is : IsPeriodOf mapping period
+  pub least : (others : List Table) (other : ℕ) → IsLawful c k d others → IsPeriodOf others other → period ≤ other
+
+-- A circuit is the mapped circuit of such a mapping of a subject circuit in which equal latches are one leaf: it is the joined circuit
+-- that is mapped. The circuit tells the mapping: no other lawful one has this mapped circuit.
+pub record IsLeastMapped (k d : ℕ) (subject : Plain) (mapping : List Table) (period : ℕ) (mapped : Plain) : Type 0 where
+  pub joined : Plain
+  pub joined_is : IsJoined subject joined
+  pub least : IsLeastMapping joined k d mapping period
+  pub mapped_is : IsMapped joined mapping mapped
+  pub told : (others : List Table) → IsLawful joined k d others → IsMapped joined others mapped → others ≡ mapping
+
+-- A text that maps another one by a mapping. It is the one spelling of its circuit, the only one that it has, and the circuits of the
+-- two are Same. Both are sound, so that each has a trace for every list of rows, and exactly one: without that Same might say
+-- nothing. The circuit written has tables of at most `k` pins, this period and these numbers of tables and registers. It is the
+-- mapped circuit of the mapping, which is lawful for the subject circuit, and no lawful mapping has a smaller period.
+pub record Maps (k d : ℕ) (text bytes : List ℕ) (mapping : List Table) (period tables registers : ℕ) : Type 0 where
   pub source : Plain
   pub of_text : IsCircuitOf source_limits text source
   pub source_sound : IsSound source
@@ -41,6 +61,7 @@ pub record Maps (k : ℕ) (text bytes : List ℕ) (period tables registers : ℕ
   pub period_is : IsPeriod mapped period
   pub tables_are : gate_count mapped.drives ≡ tables
   pub registers_are : latch_count mapped.drives ≡ registers
+  pub least : IsLeastMapped k d (subject_of k source) mapping period mapped
 
 -- Why a text is refused: a fault of the text at a line, or a subject circuit with more than 100,000 signals.
 pub data Blame : Type 0 where
@@ -83,12 +104,13 @@ pub record IsBlamedBy (k : ℕ) (name text : List ℕ) (status : Status) (line :
   pub line_is : line ≡ blame_line name blame
 
 -- what is written is a text that maps the text, and the line says its period and its numbers of tables and registers
-pub record IsMapping (k : ℕ) (output text : List ℕ) (writes : List Write) (lines : List (List ℕ)) : Type 0 where
+pub record IsMapping (k d : ℕ) (output text : List ℕ) (writes : List Write) (lines : List (List ℕ)) : Type 0 where
   pub bytes : List ℕ
+  pub mapping : List Table
   pub period : ℕ
   pub tables : ℕ
   pub registers : ℕ
-  pub maps : Maps k text bytes period tables registers
+  pub maps : Maps k d text bytes mapping period tables registers
   pub writes_are : writes ≡ write_of output bytes ∷ []
   pub lines_are : lines ≡ mapped_line period tables registers ∷ []
 
@@ -100,15 +122,15 @@ abbrev pub MapAccepts : ℕ → List (List ℕ) → Type 0
 MapAccepts k (text ∷ []) = IsMappable k text
 MapAccepts k texts = ⊥
 
-abbrev pub MapMakes : ℕ → List ℕ → List (List ℕ) → List Write → List (List ℕ) → Type 0
-MapMakes k output (text ∷ []) writes lines = IsMapping k output text writes lines
-MapMakes k output texts writes lines = ⊥
+abbrev pub MapMakes : ℕ → ℕ → List ℕ → List (List ℕ) → List Write → List (List ℕ) → Type 0
+MapMakes k d output (text ∷ []) writes lines = IsMapping k d output text writes lines
+MapMakes k d output texts writes lines = ⊥
 
-abbrev pub map_command : ℕ → List ℕ → List ℕ → Command
-map_command k input output = record {
+abbrev pub map_command : ℕ → ℕ → List ℕ → List ℕ → Command
+map_command k d input output = record {
   inputs = input_of input source_bytes ∷ [];
   outputs = output ∷ [];
   Refuses = MapRefuses k input;
   Accepts = MapAccepts k;
-  Makes = MapMakes k output;
+  Makes = MapMakes k d output;
 }

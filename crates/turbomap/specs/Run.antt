@@ -1,5 +1,5 @@
 -- What the answer of the program says, by what the words ask for.
-use Rattle.std.specs.Prelude.{◌≡◌, ℕ, List, [], Option, None, Some, IsSomeAnd}
+use Rattle.std.specs.Prelude.{◌≡◌, ℕ, Option, None, Some, IsSomeAnd}
 use Rattle.tm_store.specs.Files.{Files}
 use Rattle.turbomap.specs.declared.status.Status.{Status}
 use Rattle.turbomap.specs.declared.status.Status.TheVariants.{Done, NoMemory, BadWords, Unread, Unwritten, BadText, TooLong}
@@ -23,7 +23,7 @@ number TooLong = 6
 
 -- the command that is asked for
 abbrev pub command_of : Asked → Command
-command_of (map_files k d input output) = map_command k input output
+command_of (map_files k d input output) = map_command k d input output
 command_of (sim_files input vectors output) = sim_command input vectors output
 command_of (show_file input) = show_command input
 

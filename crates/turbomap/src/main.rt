@@ -12,6 +12,8 @@ mod map_file;
 pub mod reading;
 mod ready;
 mod refusal;
+#[cfg(test)]
+mod rows;
 mod say;
 mod show_file;
 mod sim_files;

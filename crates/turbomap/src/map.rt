@@ -4,24 +4,32 @@ ghost use Rattle.std.specs.Prelude.{ℕ, ◌≤◌, length, IfOk, IfErr};
 ghost use Rattle.tm_bits.specs.Limits.{most_inputs};
 ghost use Rattle.tm_circuit.specs.Plain.{widest};
 ghost use Rattle.tm_circuit.specs.Sound.{IsSound};
+ghost use Rattle.tm_parts.specs.Names.{HasNamesWithin};
+ghost use Rattle.tm_parts.specs.Fits.{FitsMapping};
+ghost use Rattle.tm_unroll.specs.Mappings.{tables_of};
 ghost use Rattle.blif_read.specs.Text.{IsCircuitOf};
 ghost use Rattle.turbomap.specs.Limits.{most_lag, source_bytes, source_limits};
-ghost use Rattle.turbomap.specs.Map.{Maps, IsFaulty};
-ghost use Rattle.tm_parts.specs.Names.{HasNamesWithin};
+ghost use Rattle.turbomap.specs.Map.{Maps, IsLeastMapping};
 ghost use Rattle.turbomap.specs.Mapped.{IsMapFault, IsReadFault, IsSubject, IsSplitFault, IsMappedOf};
 
 use blif_read::{BlifFault, BlifKind, SOURCE, read};
 use std::alloc::Global;
 use thiserror::Error;
 use tm_bits::NoMemory;
-use tm_circuit::Circuit;
-use tm_own::own;
+use tm_circuit::{Circuit, laws as circuit_laws};
+use tm_cover::choose;
+use tm_mapped::laws as mapped_laws;
+use tm_net::mapped;
+use tm_search::{laws as search_laws, least_for_outputs};
 use tm_split::{SplitFault, subject};
+use tm_twins::{joined, laws as twin_laws};
+use tm_unroll::Mapping;
 
-/// A mapped text, with the period of its circuit and its numbers of tables and registers.
+/// A mapped text, with the mapping that it was made by, the period of both, and the numbers of tables and registers.
 #[derive(Drop)]
 pub struct Mapped {
     pub text: Vec<u8>,
+    pub mapping: Mapping,
     pub period: u32,
     pub tables: u32,
     pub registers: u32,
@@ -48,19 +56,26 @@ impl From<NoMemory> for MapFault {
     }
 }
 
-/// Maps the circuit of a text to tables of at most `k` inputs: wide gates are split, then each gate is its own table, and no
-/// register moves.
+/// A mapping of the least period, and that period.
+#[derive(Drop)]
+struct LeastMapping {
+    mapping: Mapping,
+    period: u32,
+}
+
+/// Maps the circuit of a text to tables of at most `k` inputs, over each of which at most `d` registers move forward: wide gates are
+/// split, latches that are always equal count as one, and the period is the least that a lawful mapping has.
 pub fn map_text(alloc: Global, text: &[u8], k: u8, d: u8) -> Result<Mapped, MapFault>
     requires tables { (2 ≤ k) × (k ≤ most_inputs) }
     requires lags { d ≤ most_lag }
     requires short { length text.now ≤ source_bytes }
-    ensures maps { IfOk result (λ mapped. Maps k text.now mapped.text.items mapped.period mapped.tables mapped.registers) }
+    ensures maps { IfOk result (λ mapped.
+        Maps k d text.now mapped.text.items (tables_of mapped.mapping) mapped.period mapped.tables mapped.registers) }
     ensures fault { IfErr result (IsMapFault k text.now) }
 {
-    let _ = d;
     let source = read_source(alloc, text)?;
     let subject = split(alloc, &source, k)?;
-    Ok(mapped_of(alloc, &subject)?)
+    Ok(map_subject(alloc, &subject, k, d)?)
 }
 
 // The circuit of the text.
@@ -98,16 +113,46 @@ fn split(alloc: Global, source: &Circuit, k: u8) -> Result<Circuit, MapFault>
     }
 }
 
-// The circuit with each gate as its own table, as a text.
-fn mapped_of(alloc: Global, source: &Circuit) -> Result<Mapped, NoMemory>
-    requires { widest source.now.drives ≤ most_inputs }
-    ensures { IfOk result (IsMappedOf source.now) }
+// The subject circuit mapped, as a text. What is mapped is the joined circuit, in which equal latches are one.
+fn map_subject(alloc: Global, subject: &Circuit, k: u8, d: u8) -> Result<Mapped, NoMemory>
+    requires tables { (2 ≤ k) × (k ≤ most_inputs) }
+    requires lags { d ≤ most_lag }
+    requires narrow { widest subject.now.drives ≤ k }
+    requires fits { FitsMapping subject.now }
+    ensures { IfOk result (IsMappedOf k d subject.now) }
 {
-    let mapped = own(alloc, source)?;
+    circuit_laws::equivalence();
+    twin_laws::joined_fits();
+    mapped_laws::single_rows_have_values();
+    mapped_laws::one_mapping();
+    let joined = joined(alloc, subject)?;
+    let found = least_mapping(alloc, &joined, k, d)?;
+    let circuit = mapped(alloc, &joined, k, d, &found.mapping)?;
+    // The circuit in hand is known to be sound.
+    let _ = circuit.signals();
     Ok(Mapped {
-        text: blif_write::text(alloc, &mapped)?,
-        period: mapped.period(alloc)?,
-        tables: mapped.gates(),
-        registers: mapped.latches(),
+        text: blif_write::text(alloc, &circuit)?,
+        mapping: found.mapping,
+        period: found.period,
+        tables: circuit.gates(),
+        registers: circuit.latches(),
+    })
+}
+
+// A mapping of the least period that any lawful mapping of the circuit has.
+fn least_mapping(alloc: Global, circuit: &Circuit, k: u8, d: u8) -> Result<LeastMapping, NoMemory>
+    requires tables { (2 ≤ k) × (k ≤ most_inputs) }
+    requires lags { d ≤ most_lag }
+    requires narrow { widest circuit.now.drives ≤ k }
+    requires fits { FitsMapping circuit.now }
+    ensures { IfOk result (λ least. IsLeastMapping circuit.now k d (tables_of least.mapping) least.period) }
+{
+    search_laws::least_is_period();
+    // The circuit in hand is known to be sound.
+    let _ = circuit.signals();
+    let least = least_for_outputs(alloc, 0, circuit, k, d)?;
+    Ok(LeastMapping {
+        mapping: choose(alloc, circuit, k, d, &least.at)?,
+        period: least.period,
     })
 }

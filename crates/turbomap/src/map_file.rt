@@ -23,8 +23,10 @@ pub fn prepare_map<'a, S: Store>(
     words: MapWords<'a>,
     store: &mut S,
 ) -> Result<Ready<'a>, Refusal>
-    ensures ready { IfOk result (IsReady (map_command words.entry.k words.entry.input.now words.entry.output.now) (S.held store.old)) }
-    ensures refused { IfErr result (HasCause (map_command words.entry.k words.entry.input.now words.entry.output.now)
+    ensures ready { IfOk result
+        (IsReady (map_command words.entry.k words.entry.d words.entry.input.now words.entry.output.now) (S.held store.old)) }
+    ensures refused { IfErr result
+        (HasCause (map_command words.entry.k words.entry.d words.entry.input.now words.entry.output.now)
         (stored S.held S.read_faults S.write_faults store.old store.new)) }
     ensures same { S.held store.new ≡ S.held store.old }
     ensures write_counts { (n : List ℕ) → S.write_faults store.old n ≤ S.write_faults store.new n }
@@ -36,9 +38,10 @@ pub fn prepare_map<'a, S: Store>(
 // Maps the text, and makes the line.
 fn make_map<'a>(alloc: Global, words: MapWords<'a>, text: &[u8]) -> Result<Ready<'a>, Refusal>
     requires short { length text.now ≤ source_bytes }
-    ensures ready { IfOk result (IsMade (map_command words.entry.k words.entry.input.now words.entry.output.now) (text.now ∷ [])) }
+    ensures ready { IfOk result
+        (IsMade (map_command words.entry.k words.entry.d words.entry.input.now words.entry.output.now) (text.now ∷ [])) }
     ensures refused { IfErr result
-        (IsTextRefusal (map_command words.entry.k words.entry.input.now words.entry.output.now) (text.now ∷ [])) }
+        (IsTextRefusal (map_command words.entry.k words.entry.d words.entry.input.now words.entry.output.now) (text.now ∷ [])) }
 {
     match map_text(alloc, text, words.k, words.d) {
         Ok(mapped) => {

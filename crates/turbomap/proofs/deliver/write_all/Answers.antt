@@ -1,9 +1,9 @@
-use Rattle.std.proofs.Common.{◌≡◌, ◌<◌, ◌≤◌, ◌++◌, ◌∷◌, ◌∙◌, List, [], refl, sym, ap, subst, map, length, get_or, drop, suc, rules, arith}
+use Rattle.std.proofs.Common.{◌≡◌, ◌∙◌, List, refl, sym, subst, map, length, drop, suc, rules}
 use Rattle.std.proofs.lemmas.List.{map-id}
 use Rattle.std.proofs.lemmas.Iterator.Adapters.{YieldsList-from_vec}
 use Rattle.std.proofs.lemmas.Iterator.Consumers.{YieldsList-turn, YieldsList-end}
 use Rattle.turbomap.specs.declared.ready.Output.{Output}
-use Rattle.turbomap.specs.Command.{Write, stored, IsWritten}
+use Rattle.turbomap.specs.Command.{stored, IsWritten}
 use Rattle.turbomap.specs.Prepared.{seen}
 use Rattle.turbomap.proofs.Lines.{ok_then, err_then}
 use Rattle.turbomap.proofs.Writes.{before_writes, all_written, lost_one, lost_rose, cut_yielded, more_yielded, differs_at, line_at, one_output}

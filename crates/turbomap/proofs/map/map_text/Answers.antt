@@ -1,6 +1,6 @@
-use Rattle.std.proofs.Common.{◌≡◌, ℕ, List, ◌<◌, ◌≤◌, refl, arith}
+use Rattle.std.proofs.Common.{ℕ, List, refl, subst}
 use Rattle.std.proofs.lemmas.Result.{err_from_is_err_and}
-use Rattle.tm_circuit.specs.Plain.{Plain, widest}
+use Rattle.tm_circuit.specs.Plain.{Plain}
 use Rattle.tm_circuit.specs.Sound.{IsSound}
 use Rattle.turbomap.specs.Limits.{source_limits}
 use Rattle.blif_read.specs.Text.{IsCircuitOf}
@@ -9,15 +9,16 @@ use Rattle.blif_read.proofs.ShortNames.{short_names}
 use Rattle.turbomap.specs.declared.map.Mapped.{Mapped}
 use Rattle.turbomap.specs.declared.map.MapFault.{MapFault}
 use Rattle.turbomap.specs.declared.map.MapFault.TheVariants as map_fault
-use Rattle.turbomap.specs.Map.{Maps, fault, too_large}
+use Rattle.tm_unroll.specs.Mappings.{tables_of}
+use Rattle.turbomap.specs.Map.{IsLeastMapped, Maps, fault, too_large}
 use Rattle.turbomap.specs.Mapped.{IsSubject, IsSplitFault, IsReadFault, IsMapFault, IsMappedOf}
 use Rattle.tm_circuit.proofs.Sameness.{sound_same_through}
 use Rattle.turbomap.proofs.map.map_text.Goals as goal
 
-maps_of : (k : ℕ) (text : List ℕ) (source subject : Plain) (mapped : Mapped) → IsCircuitOf source_limits text source → IsSound source
-    → IsSubject k source subject → IsMappedOf subject mapped
-    → Maps k text mapped.text.items mapped.period mapped.tables mapped.registers
-maps_of k text source subject mapped of_text sound split made = record {
+maps_of : (k d : ℕ) (text : List ℕ) (source subject : Plain) (mapped : Mapped) → IsCircuitOf source_limits text source → IsSound source
+    → IsSubject k source subject → IsMappedOf k d subject mapped
+    → Maps k d text mapped.text.items (tables_of mapped.mapping) mapped.period mapped.tables mapped.registers
+maps_of k d text source subject mapped of_text sound split made = record {
   source = source;
   of_text = of_text;
   source_sound = sound;
@@ -28,10 +29,11 @@ maps_of k text source subject mapped of_text sound split made = record {
   mapped_sound = made.sound;
   only = made.only;
   same = sound_same_through source subject made.circuit split.sound split.same made.same;
-  narrow = omega (arith, made.narrow, split.narrow);
+  narrow = made.narrow;
   period_is = made.period_is;
   tables_are = made.tables_are;
   registers_are = made.registers_are;
+  least = subst (λ (c : Plain). IsLeastMapped k d c (tables_of mapped.mapping) mapped.period made.circuit) split.spelled made.least;
 }
 
 map_fault_of : (k : ℕ) (text : List ℕ) (source : Plain) (why : MapFault) → IsCircuitOf source_limits text source → IsSplitFault k source why
@@ -66,7 +68,13 @@ returns-in_err-subject-clause-fault c =
     rw (p.1, p.2)
     (map_fault_of c.args.k c.args.text.now c.in_ok-source.source _ c.in_ok-source.ensures.circuit c.in_err-subject.ensures.fault)
 
+pub map_subject-requires-clause-narrow : goal.map_subject-requires-clause-narrow
+map_subject-requires-clause-narrow c = c.in_ok-subject.ensures.subject.narrow
+
+pub map_subject-requires-clause-fits : goal.map_subject-requires-clause-fits
+map_subject-requires-clause-fits c = c.in_ok-subject.ensures.subject.fits
+
 pub returns-clause-maps : goal.returns-clause-maps
 returns-clause-maps c =
-    maps_of c.args.k c.args.text.now c.in_ok-source.source c.in_ok-subject.subject c.in_ok-mapped_of.field-0 c.in_ok-source.ensures.circuit
-    c.in_ok-source.ensures.sound c.in_ok-subject.ensures.subject c.in_ok-mapped_of.ensures
+    maps_of c.args.k c.args.d c.args.text.now c.in_ok-source.source c.in_ok-subject.subject c.in_ok-map_subject.field-0 c.in_ok-source.ensures.circuit
+    c.in_ok-source.ensures.sound c.in_ok-subject.ensures.subject c.in_ok-map_subject.ensures

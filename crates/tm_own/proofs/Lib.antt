@@ -1,6 +1,0 @@
-pub mod Sorting
-pub mod Values
-pub mod Growing
-pub mod Widths
-pub mod Soundness
-pub mod Alikeness
