@@ -21,10 +21,10 @@ fail() {
     failed=1
 }
 
-# Maps a text and asks ABC whether the two circuits are sequentially equivalent.
+# Maps a text with lags of at most so many steps, 0 unless given, and asks ABC whether the two circuits are sequentially equivalent.
 map_and_compare() {
-    local text=$1 mapped=$2
-    "$program" map 4 0 "$text" "$mapped" >"$folder/said" || { fail "$text is refused: $(cat "$folder/said")"; return; }
+    local text=$1 mapped=$2 lags=${3:-0}
+    "$program" map 4 "$lags" "$text" "$mapped" >"$folder/said" || { fail "$text is refused: $(cat "$folder/said")"; return; }
     "$abc" -c "dsec $text $mapped" >"$folder/verdict" 2>&1
     grep -q 'Networks are equivalent' "$folder/verdict" || fail "$mapped isn't shown equivalent: $(tail -n 3 "$folder/verdict")"
 }
@@ -37,5 +37,13 @@ for design in gray_counter serial_sender; do
     map_and_compare "$folder/$design.abc.blif" "$folder/$design.abc.out.blif"
 done
 
-[ "$failed" -eq 0 ] && echo "interop: 4 texts passed"
+# A design of which registers are moved.
+"$yosys" -q -p "read_verilog bench/designs/checksum.v; synth -flatten -top checksum; dfflegalize -cell \$_DFF_P_ 01; abc -g simple; setundef -zero -undriven; opt_clean -purge; rename -enumerate; write_blif $folder/checksum.blif" ||
+    fail "yosys ends with an error on checksum"
+for lags in 0 2; do
+    map_and_compare "$folder/checksum.blif" "$folder/checksum.$lags.blif" "$lags"
+    echo "interop: checksum with lags of at most $lags: $(cat "$folder/said")"
+done
+
+[ "$failed" -eq 0 ] && echo "interop: 6 texts passed"
 exit "$failed"
