@@ -1,8 +1,8 @@
 -- What a settling keeps where a label falls.
-use Rattle.std.proofs.Common.{◌≡◌, ◌≢◌, ℕ, zero, suc, ◌+◌, ◌-◌, ◌<◌, ◌≤◌, ◌⊎◌, inl, inr, Bool, true, false, List, [], ◌∷◌, ◌++◌, length, Option, None, Some, refl, sym, ◌∙◌, ap, subst, arith}
-use Rattle.std.specs.Prelude.{slice_set, slice_index_or, Contains, AllPairs}
-use Rattle.std.proofs.lemmas.Bool.{cases_Bool, cases_eq, both_ways, false≢true, false_from_ne_true}
-use Rattle.std.proofs.lemmas.List.{get_or-set_same, get_or-set_other, length-set}
+use Rattle.std.proofs.Common.{◌≡◌, ◌≢◌, ℕ, ◌-◌, ◌≤◌, inl, inr, Bool, true, false, List, [], ◌∷◌, ◌++◌, length, Option, None, Some, sym, ◌∙◌, ap, subst}
+use Rattle.std.specs.Prelude.{Contains}
+use Rattle.std.proofs.lemmas.Bool.{cases_Bool, cases_eq, both_ways, false_from_ne_true}
+use Rattle.std.proofs.lemmas.List.{get_or-set_same, length-set}
 use Rattle.tm_circuit.specs.Plain.{Plain}
 use Rattle.tm_circuit.specs.Chain.{IsGate}
 use Rattle.tm_circuit.specs.Sound.{IsSound}
@@ -12,17 +12,17 @@ use Rattle.tm_unroll.specs.declared.node.Node.{Node}
 use Rattle.tm_unroll.specs.Nodes.{node_at}
 use Rattle.tm_unroll.specs.Walks.{Covers}
 use Rattle.tm_replay.specs.declared.label.Label.{Label}
-use Rattle.tm_replay.specs.Labels.{label, label_in, next_below, first_labels, IsLabelFor}
+use Rattle.tm_replay.specs.Labels.{label, label_in, next_below, first_labels}
 use Rattle.tm_replay.specs.Served.{is_served}
-use Rattle.tm_replay.specs.Replays.{Drop, IsLawfulDrop, lowered, Replays, labels_after}
+use Rattle.tm_replay.specs.Replays.{Drop, IsLawfulDrop, lowered}
 use Rattle.tm_replay.proofs.MomentLemmas.{replays-push, labels_after-push}
 use Rattle.tm_replay.proofs.RefutationLemmas.{has_place}
 use Rattle.tm_merge.specs.Cuts.{IsCutWithin, HaveCovers, cut_in}
 use Rattle.tm_labels.specs.Settled.{LeadTo}
-use Rattle.tm_labels.specs.Marks.{is_marked, JoinsMarks}
-use Rattle.tm_labels.specs.Watched.{Kept, IsLate, AreLate, FallsWith, Wakes}
-use Rattle.tm_labels.specs.Working.{HaveCuts, MayComeIn, LooksAt}
-use Rattle.tm_labels.specs.Keeping.{FitLabels, AreSized, Keeps}
+use Rattle.tm_labels.specs.Marks.{is_marked}
+use Rattle.tm_labels.specs.Watched.{Kept, IsLate, FallsWith, Wakes}
+use Rattle.tm_labels.specs.Working.{HaveCuts, MayComeIn}
+use Rattle.tm_labels.specs.Keeping.{FitLabels, Keeps}
 use Rattle.tm_labels.proofs.ServedLemmas.{label_other, served_differs}
 use Rattle.tm_labels.proofs.LabelLemmas.{next_fits}
 

@@ -1,30 +1,21 @@
 -- What a settling keeps, at its begin, where a gate leaves the queue, and where a label falls.
-use Rattle.std.proofs.Common.{◌≡◌, ◌≢◌, ℕ, zero, suc, ◌+◌, ◌-◌, ◌<◌, ◌≤◌, ◌⊎◌, inl, inr, Bool, true, false, List, [], ◌∷◌, ◌++◌, length, Option, None, Some, refl, sym, ◌∙◌, ap, subst, arith}
-use Rattle.std.specs.Prelude.{slice_set, slice_index_or, Contains, AllPairs}
-use Rattle.std.proofs.lemmas.Bool.{cases_Bool, cases_eq, cases_lt, both_ways, false≢true, false_from_ne_true}
+use Rattle.std.proofs.Common.{◌≡◌, ◌≢◌, ℕ, ◌-◌, ◌<◌, ◌≤◌, inl, inr, Bool, true, false, List, [], length, Option, None, Some, sym, ◌∙◌, ap, subst}
+use Rattle.std.specs.Prelude.{slice_set}
+use Rattle.std.proofs.lemmas.Bool.{cases_eq, both_ways}
 use Rattle.std.proofs.lemmas.List.{get_or-set_same, get_or-set_other, length-set, length-map}
 use Rattle.tm_circuit.specs.Plain.{Plain}
-use Rattle.tm_circuit.specs.Chain.{IsGate}
-use Rattle.tm_circuit.specs.Sound.{IsSound}
 use Rattle.tm_unroll.specs.declared.node.Node.{Node}
 use Rattle.tm_unroll.specs.Nodes.{node_at}
 use Rattle.tm_unroll.specs.Walks.{Covers}
 use Rattle.tm_unroll.proofs.JudgeLemmas.{gate_within}
 use Rattle.tm_replay.specs.declared.label.Label.{Label}
-use Rattle.tm_replay.specs.Labels.{label, label_in, next_below, first_label, first_labels, IsLabelFor}
-use Rattle.tm_replay.specs.Served.{is_served}
-use Rattle.tm_replay.specs.Replays.{Drop, IsLawfulDrop, lowered, Replays, labels_after}
-use Rattle.tm_replay.proofs.MomentLemmas.{replays-push, labels_after-push}
-use Rattle.tm_replay.proofs.RefutationLemmas.{has_place}
-use Rattle.tm_merge.specs.Cuts.{IsCutWithin, HaveCovers, cut_in}
-use Rattle.tm_labels.specs.Settled.{LeadTo}
-use Rattle.tm_labels.specs.Marks.{is_marked, MarksGates, JoinsMarks}
-use Rattle.tm_labels.specs.Watched.{Kept, IsLate, AreLate, FallsWith, Wakes}
-use Rattle.tm_labels.specs.Working.{HaveCuts, MayComeIn, LooksAt}
+use Rattle.tm_replay.specs.Labels.{label_in, first_label, first_labels}
+use Rattle.tm_replay.specs.Replays.{Drop}
+use Rattle.tm_merge.specs.Cuts.{IsCutWithin, cut_in}
+use Rattle.tm_labels.specs.Marks.{is_marked, MarksGates}
 use Rattle.tm_labels.specs.Keeping.{FitLabels, AreSized, Keeps}
-use Rattle.tm_labels.proofs.MarkLemmas.{marked_within, unmarked_here, unmarked_other}
-use Rattle.tm_labels.proofs.ServedLemmas.{label_other, served_differs}
-use Rattle.tm_labels.proofs.LabelLemmas.{next_fits, first_labels_fit}
+use Rattle.tm_labels.proofs.MarkLemmas.{unmarked_other}
+use Rattle.tm_labels.proofs.LabelLemmas.{first_labels_fit}
 
 -- One label at most.
 one_label : (o : Option Label) (x y : Label) → o ≡ Some x → o ≡ Some y → x ≡ y

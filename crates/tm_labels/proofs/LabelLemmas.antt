@@ -1,11 +1,10 @@
 -- Labels for a target: the first ones, and the one next below another.
-use Rattle.std.proofs.Common.{◌≡◌, ℕ, zero, suc, ◌+◌, ◌<◌, ◌≤◌, true, false, List, length, Option, None, Some, refl, sym, ◌∙◌, ap, subst, arith}
+use Rattle.std.proofs.Common.{◌≡◌, ℕ, zero, suc, ◌+◌, ◌≤◌, true, Option, Some, refl, sym, ◌∙◌, subst, arith}
 use Rattle.std.specs.Prelude.{nat_lt}
-use Rattle.std.proofs.lemmas.Bool.{cond_both, ltb-true, ltb-false}
+use Rattle.std.proofs.lemmas.Bool.{cond_both, ltb-true}
 use Rattle.tm_circuit.specs.Plain.{Plain, Drive, input, latch, gate, drive_in, is_gate}
-use Rattle.tm_circuit.specs.Chain.{IsGate}
 use Rattle.tm_replay.specs.declared.label.Label.{Label}
-use Rattle.tm_replay.specs.Labels.{label, label_in, below_lag, next_below, first_label, first_labels, IsLabelFor}
+use Rattle.tm_replay.specs.Labels.{label, below_lag, next_below, first_label, first_labels, IsLabelFor}
 use Rattle.tm_replay.proofs.RefutationLemmas.{label_first}
 use Rattle.tm_labels.specs.Keeping.{FitLabels}
 

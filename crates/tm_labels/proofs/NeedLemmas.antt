@@ -1,8 +1,7 @@
 -- What an output needs, latch by latch.
-use Rattle.std.proofs.Common.{◌≡◌, ℕ, zero, suc, ◌-◌, ◌<◌, ◌≤◌, Bool, false, List, length, refl, sym, ◌∙◌, ap, subst, arith}
+use Rattle.std.proofs.Common.{◌≡◌, ℕ, zero, suc, ◌-◌, ◌<◌, Bool, false, List, length, refl, ◌∙◌, ap, subst, arith}
 use Rattle.tm_circuit.specs.Plain.{Plain, Drive, input, latch, gate, drive_in, is_latch}
 use Rattle.tm_circuit.specs.Sound.{IsSound, ReadsBelow}
-use Rattle.tm_unroll.specs.declared.node.Node.{Node}
 use Rattle.tm_unroll.specs.Nodes.{node_at}
 use Rattle.tm_unroll.specs.Latches.{behind_of, behind_latches}
 use Rattle.tm_replay.proofs.SourceLemmas.{reads_signals}

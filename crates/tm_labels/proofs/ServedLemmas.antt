@@ -1,7 +1,7 @@
 -- Which nodes a label serves: where one label changes, those alone may be served otherwise that have its gate as their source.
-use Rattle.std.proofs.Common.{◌≡◌, ◌≢◌, ℕ, ◌<◌, ◌≤◌, ◌⊎◌, inl, inr, Bool, true, false, ◌&&◌, List, length, Option, None, Some, refl, sym, ◌∙◌, ap, subst, arith}
+use Rattle.std.proofs.Common.{◌≡◌, ◌≢◌, ℕ, inl, inr, Bool, true, false, List, Option, None, refl, ◌∙◌, ap, subst}
 use Rattle.std.specs.Prelude.{is_some, nat_eq, slice_set}
-use Rattle.std.proofs.lemmas.Bool.{cases_eq, and_parts, and_cases, both_ways, eqb-true, false≢true}
+use Rattle.std.proofs.lemmas.Bool.{cases_eq, and_parts, and_cases, both_ways, eqb-true}
 use Rattle.std.proofs.lemmas.List.{get_or-set_other}
 use Rattle.tm_circuit.specs.Plain.{Plain, Drive, input, latch, gate, drive_in, is_latch, is_gate}
 use Rattle.tm_circuit.specs.Sound.{IsSound}

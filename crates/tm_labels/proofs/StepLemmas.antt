@@ -1,10 +1,10 @@
 -- What a search of the net of served nodes finds: a cut in order, or walks whose indices are digits.
-use Rattle.std.proofs.Common.{◌≡◌, ◌≢◌, ℕ, zero, suc, ◌-◌, ◌<◌, ◌≤◌, inl, inr, Bool, true, false, ◌&&◌, List, [], ◌∷◌, map, length, Option, Some, refl, sym, ◌∙◌, ap, subst, arith}
-use Rattle.std.specs.Prelude.{Contains, All, AllPairs, slice_index_or}
-use Rattle.std.proofs.lemmas.Bool.{cases_Bool, cases_lt, and_parts}
+use Rattle.std.proofs.Common.{◌≡◌, ℕ, zero, suc, ◌<◌, ◌≤◌, inl, inr, Bool, true, false, List, [], ◌∷◌, length, Option, refl, sym, subst, arith}
+use Rattle.std.specs.Prelude.{Contains, All, slice_index_or}
+use Rattle.std.proofs.lemmas.Bool.{cases_Bool, cases_lt}
 use Rattle.std.proofs.lemmas.Grind.{common_steps}
 use Rattle.std.proofs.lemmas.List.{length-map, get_or_past}
-use Rattle.std.proofs.lemmas.List.Elements.{All-cons, All-nil, All-get_or}
+use Rattle.std.proofs.lemmas.List.Elements.{All-cons, All-nil}
 use Rattle.tm_circuit.specs.Plain.{Plain, Drive, input, latch, gate, drive_in, is_gate}
 use Rattle.tm_circuit.specs.Chain.{IsGate}
 use Rattle.tm_circuit.specs.Sound.{IsSound, FitsPins}
@@ -16,7 +16,7 @@ use Rattle.tm_unroll.specs.declared.node.Node.{Node}
 use Rattle.tm_unroll.specs.Nodes.{node_at, reads_of, reads, is_end_of}
 use Rattle.tm_unroll.specs.NetCuts.{IsNode, IsCoverBy}
 use Rattle.tm_unroll.specs.Replaced.{IsInOrder}
-use Rattle.tm_unroll.specs.Unrolled.{is_node, unrolled}
+use Rattle.tm_unroll.specs.Unrolled.{is_node}
 use Rattle.tm_unroll.proofs.JudgeLemmas.{gate_within}
 use Rattle.tm_unroll.proofs.NetLemmas.{cuts_covers}
 use Rattle.tm_unroll.proofs.ReplaceLemmas.{same_covers}

@@ -1,16 +1,16 @@
 -- A settling ends: each turn takes something from what is left of the labels, or a gate from the queue.
-use Rattle.std.proofs.Common.{◌≡◌, ℕ, zero, suc, ◌+◌, ◌*◌, ◌<◌, ◌≤◌, ◌⊎◌, inl, inr, Bool, true, false, List, [], ◌∷◌, ◌++◌, length, Option, None, Some, refl, sym, ◌∙◌, ap, subst, arith}
-use Rattle.std.specs.Prelude.{slice_set, count_by, replicate}
+use Rattle.std.proofs.Common.{◌≡◌, ℕ, suc, ◌+◌, ◌*◌, ◌<◌, ◌≤◌, ◌⊎◌, inl, inr, Bool, true, false, List, length, ◌∙◌, ap, subst, arith}
+use Rattle.std.specs.Prelude.{count_by, replicate}
 use Rattle.std.proofs.Math.Nat.{mul-le-mul_right, suc-mul}
 use Rattle.std.proofs.lemmas.List.{get_or-replicate}
 use Rattle.tm_circuit.specs.Plain.{Plain}
 use Rattle.std.proofs.lemmas.List.Sums.{count_by-le-length}
-use Rattle.tm_replay.specs.Replays.{Drop, lowered, IsLawfulDrop, HaveLost}
+use Rattle.tm_replay.specs.Replays.{lowered, HaveLost}
 use Rattle.tm_replay.proofs.RefutationLemmas.{has_place}
 use Rattle.tm_replay.proofs.CountLemmas.{left_of_all, drop_left}
 use Rattle.tm_labels.specs.Marks.{is_marked, IsUnmarked}
-use Rattle.tm_labels.specs.Working.{Working, Leaves, Lowers, IsLeaving, IsLowering, IsWorking, IsTaskOf, IsSameTask, settling_of}
-use Rattle.tm_labels.specs.Settled.{LeadTo, IsSettledOver, IsSettled, IsSettledForOutputs, IsSettledOrLost}
+use Rattle.tm_labels.specs.Working.{Working, Leaves, Lowers, IsWorking, IsTaskOf, IsSameTask, settling_of}
+use Rattle.tm_labels.specs.Settled.{LeadTo, IsSettledOver, IsSettled, IsSettledOrLost}
 use Rattle.tm_merge.specs.Leading.{AreMarked}
 use Rattle.tm_unroll.specs.Latches.{need_of}
 use Rattle.tm_labels.proofs.MarkLemmas.{one_less}

@@ -1,7 +1,7 @@
 -- Who looks at a gate.
-use Rattle.std.proofs.Common.{◌≡◌, ◌≢◌, ℕ, zero, suc, ◌+◌, ◌-◌, ◌<◌, ◌≤◌, ◌⊎◌, inl, inr, Bool, true, false, List, [], ◌∷◌, ◌++◌, map, length, take, get_or, Option, None, Some, refl, sym, ◌∙◌, ap, subst, arith, Global}
-use Rattle.std.specs.Prelude.{slice_set, slice_index, slice_index_or, Contains, filter, ◌==◌, Vec, replicate, All}
-use Rattle.std.proofs.lemmas.Bool.{cases_Bool, cases_eq, cases_lt, both_ways, false≢true, eq-eqb, cond-true, cond-false}
+use Rattle.std.proofs.Common.{◌≡◌, ℕ, zero, suc, ◌+◌, ◌<◌, ◌≤◌, ◌⊎◌, inl, inr, Bool, true, false, List, [], ◌∷◌, ◌++◌, map, length, take, get_or, Option, None, Some, refl, sym, ◌∙◌, ap, subst, arith, Global}
+use Rattle.std.specs.Prelude.{slice_set, slice_index, Contains, filter, ◌==◌, Vec, replicate, All}
+use Rattle.std.proofs.lemmas.Bool.{cases_Bool, cases_eq, both_ways, eq-eqb, cond-true, cond-false}
 use Rattle.std.proofs.lemmas.List.{get_or-set_same, get_or-set_other, length-set, map-set, length-map, set-get_or, take_more, take_all, length-replicate, map_push, replicate_more}
 use Rattle.std.proofs.lemmas.List.Elements.{Contains-append_left, Contains-push, Contains-push_cases, Contains-get_or}
 use Rattle.tm_circuit.specs.Plain.{Plain, Drive}
@@ -14,7 +14,7 @@ use Rattle.tm_unroll.specs.declared.node.Node.{Node}
 use Rattle.tm_replay.specs.declared.label.Label.{Label}
 use Rattle.tm_merge.specs.Cuts.{cut_in}
 use Rattle.tm_labels.specs.declared.watcher.Watcher.{Watcher}
-use Rattle.tm_labels.specs.Watched.{Kept, watcher, watchers_in, AreWithin, AreWatched, KeepsCuts, AddsWatchers, AreWatchedAs, IsLate, AreLateAmong, AreLate, FallsWith}
+use Rattle.tm_labels.specs.Watched.{Kept, watcher, watchers_in, KeepsCuts, AddsWatchers, AreWatchedAs, IsLate, AreLateAmong, AreLate, FallsWith}
 
 -- What passes a test stays in a filter.
 pub passes_stays : {X : Type 0} (test : X → Bool) (xs : List X) (x : X) → Contains xs x → test x ≡ true → Contains (filter test xs) x

@@ -1,5 +1,5 @@
 -- What the fields of a `Work` keep.
-use Rattle.std.specs.Prelude.{◌≡◌, ℕ, ◌≤◌, ◌-◌, Bool, true, false, List, [], length, map, Option, Some, None}
+use Rattle.std.specs.Prelude.{◌≡◌, ℕ, ◌≤◌, Bool, true, List, [], length, map, Option, Some, None}
 use Rattle.tm_bits.specs.Limits.{most_inputs}
 use Rattle.tm_circuit.specs.Plain.{Plain, widest}
 use Rattle.tm_circuit.specs.Chain.{IsGate}

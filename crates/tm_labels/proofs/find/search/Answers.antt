@@ -1,5 +1,5 @@
 -- A cut in order, or digits.
-use Rattle.std.proofs.Common.{◌≡◌, ℕ, ◌-◌, ◌≤◌, List, map, Global, sym, ap, subst, arith}
+use Rattle.std.proofs.Common.{ℕ, ◌-◌, List, Global, subst, arith}
 use Rattle.std.specs.Prelude.{Contains, Vec}
 use Rattle.tm_flow.specs.Lists.{lists_in}
 use Rattle.tm_flow.specs.Cuts.{IsCut}
@@ -8,7 +8,7 @@ use Rattle.tm_flow.specs.declared.net.Found.{Found}
 use Rattle.tm_unroll.specs.declared.node.Node.{Node}
 use Rattle.tm_unroll.specs.Nodes.{node_at}
 use Rattle.tm_unroll.specs.Replaced.{IsInOrder}
-use Rattle.tm_replay.specs.Served.{served, most_advance}
+use Rattle.tm_replay.specs.Served.{served}
 use Rattle.tm_labels.proofs.StepLemmas.{barrier_digits, cut_in_order}
 use Rattle.tm_labels.proofs.find.search.Goals as goal
 

@@ -1,5 +1,5 @@
 -- Latch by latch.
-use Rattle.std.proofs.Common.{◌≡◌, ℕ, ◌<◌, ◌≤◌, false, sym, ◌∙◌, ap, refl, inl, inr, arith}
+use Rattle.std.proofs.Common.{◌≡◌, false, sym, ◌∙◌, ap, refl, inl, inr, arith}
 use Rattle.tm_circuit.specs.Plain.{drive, drive_of, is_latch}
 use Rattle.tm_unroll.specs.declared.node.Node.{Node}
 use Rattle.tm_unroll.specs.Latches.{behind_latches}

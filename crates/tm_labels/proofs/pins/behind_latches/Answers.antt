@@ -1,5 +1,5 @@
 -- The next of a latch is a signal.
-use Rattle.std.proofs.Common.{◌≡◌, ◌∙◌, ap}
+use Rattle.std.proofs.Common.{◌∙◌, ap}
 use Rattle.tm_circuit.specs.Plain.{drive_of}
 use Rattle.tm_labels.proofs.NeedLemmas.{next_within}
 use Rattle.tm_labels.proofs.pins.behind_latches.Goals as goal

@@ -1,5 +1,5 @@
 -- Each turn takes something, and the end comes by a lost source or by an empty queue.
-use Rattle.std.proofs.Common.{◌≡◌, ◌⊎◌, true, Bool, List, Option, length, sym, subst}
+use Rattle.std.proofs.Common.{◌≡◌, ◌⊎◌, Bool, List, Option, sym, subst}
 use Rattle.std.proofs.lemmas.Bool.{MatchBool-at_true, MatchBool-at_false}
 use Rattle.tm_unroll.specs.Latches.{need_of}
 use Rattle.tm_replay.specs.declared.label.Label.{Label}

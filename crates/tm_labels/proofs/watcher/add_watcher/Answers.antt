@@ -1,6 +1,6 @@
 -- The list of the gate is one longer.
-use Rattle.std.proofs.Common.{◌≡◌, ℕ, ◌<◌, List, length, sym, subst, arith}
-use Rattle.std.specs.Prelude.{Contains, slice_set, Vec}
+use Rattle.std.proofs.Common.{◌<◌, length, subst, arith}
+use Rattle.std.specs.Prelude.{Contains, slice_set}
 use Rattle.tm_labels.specs.Watched.{watchers_in}
 use Rattle.tm_labels.proofs.WatchLemmas.{adds_at, adds_same, lists_of}
 use Rattle.tm_labels.proofs.watcher.add_watcher.Goals as goal

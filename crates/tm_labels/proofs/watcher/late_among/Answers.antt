@@ -1,8 +1,7 @@
 -- Watcher by watcher.
-use Rattle.std.proofs.Common.{◌≡◌, ℕ, ◌+◌, List, [], take, map, Global, sym, ◌∙◌, ap, subst}
+use Rattle.std.proofs.Common.{ℕ, ◌+◌, List, [], take, map, Global, sym, ◌∙◌, ap, subst}
 use Rattle.std.specs.Prelude.{Vec}
 use Rattle.std.proofs.lemmas.Bool.{MatchBool-at_true, MatchBool-at_false}
-use Rattle.tm_circuit.specs.declared.parts.Signal.{Signal}
 use Rattle.tm_labels.specs.Watched.{AreLateAmong, IsLate}
 use Rattle.tm_labels.proofs.WatchLemmas.{late_none, late_yes, late_no, late_all}
 use Rattle.tm_labels.proofs.watcher.late_among.Goals as goal

@@ -1,5 +1,5 @@
 -- The closure only tests.
-use Rattle.std.proofs.Common.{rules, arith}
+use Rattle.std.proofs.Common.{rules}
 use Rattle.std.specs.Prelude.{slice_index, ◌==◌}
 use Rattle.std.proofs.lemmas.Fn.{filter_same}
 use Rattle.tm_labels.specs.declared.watcher.Watcher.{Watcher}

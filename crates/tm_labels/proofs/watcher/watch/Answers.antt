@@ -1,7 +1,7 @@
 -- Leaf by leaf.
-use Rattle.std.proofs.Common.{◌≡◌, ℕ, ◌+◌, ◌<◌, ◌≤◌, List, [], length, take, Global, get_or, refl, sym, ◌∙◌, ap, subst, arith}
+use Rattle.std.proofs.Common.{◌≡◌, ◌+◌, ◌<◌, List, length, take, Global, sym, ◌∙◌, subst, arith}
 use Rattle.std.specs.Prelude.{Contains, Vec}
-use Rattle.std.proofs.lemmas.List.{take_all, length-map}
+use Rattle.std.proofs.lemmas.List.{take_all}
 use Rattle.tm_circuit.proofs.ListLemmas.{contains-none}
 use Rattle.tm_unroll.specs.declared.node.Node.{Node}
 use Rattle.tm_unroll.proofs.JudgeLemmas.{gate_within}

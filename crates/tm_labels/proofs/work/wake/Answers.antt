@@ -1,5 +1,5 @@
 -- The late ones count, and so are signals.
-use Rattle.std.proofs.Common.{◌≡◌, List, length, sym, ◌∙◌, ap}
+use Rattle.std.proofs.Common.{length, sym, ◌∙◌, ap}
 use Rattle.tm_circuit.specs.Plain.{Plain}
 use Rattle.tm_labels.specs.Watched.{Kept}
 use Rattle.tm_labels.proofs.WorkLemmas.{late_within}

@@ -1,5 +1,5 @@
 -- Without a label the cut goes.
-use Rattle.std.proofs.Common.{◌≡◌, ℕ, ◌<◌, List, [], length, map, take, drop, sym, ◌∙◌, ap, subst, arith, Global}
+use Rattle.std.proofs.Common.{◌≡◌, ◌<◌, List, length, map, drop, sym, ◌∙◌, ap, subst, arith}
 use Rattle.std.specs.Prelude.{slice_set}
 use Rattle.std.proofs.lemmas.List.{take_at}
 use Rattle.tm_unroll.specs.declared.node.Node.{Node}

@@ -1,5 +1,5 @@
 -- The new cut is watched before the old one goes.
-use Rattle.std.proofs.Common.{◌≡◌, ℕ, ◌+◌, ◌%◌, ◌<◌, ◌++◌, Bool, false, List, length, map, take, drop, sym, ◌∙◌, ap, subst, arith, Global}
+use Rattle.std.proofs.Common.{◌≡◌, ℕ, ◌+◌, ◌%◌, ◌<◌, ◌++◌, false, List, length, map, take, drop, sym, ◌∙◌, ap, subst, arith, Global}
 use Rattle.std.specs.Prelude.{slice_set, Contains, Vec}
 use Rattle.std.proofs.lemmas.List.{take_at}
 use Rattle.tm_unroll.specs.declared.node.Node.{Node}

@@ -1,9 +1,8 @@
 -- The late ones are among the watchers that are left.
-use Rattle.std.proofs.Common.{◌≡◌, ℕ, ◌<◌, Bool, List, [], length, map, get_or, refl, sym, ◌∙◌, ap, subst, arith, Global}
+use Rattle.std.proofs.Common.{◌≡◌, ℕ, ◌<◌, List, [], length, map, get_or, sym, ◌∙◌, ap, subst, arith, Global}
 use Rattle.std.specs.Prelude.{slice_set, slice_index, filter, ◌==◌, Contains, Vec}
 use Rattle.std.proofs.lemmas.List.{map-set, get_or-set_same, length-map}
 use Rattle.std.proofs.lemmas.Result.{IfOk-weaker}
-use Rattle.tm_unroll.specs.declared.node.Node.{Node}
 use Rattle.tm_merge.specs.Cuts.{cut_in}
 use Rattle.tm_labels.specs.declared.watcher.Watcher.{Watcher}
 use Rattle.tm_labels.specs.Watched.{Kept, KeepsCuts, AreLate, AreLateAmong, watchers_in}

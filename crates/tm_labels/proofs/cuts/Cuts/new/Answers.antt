@@ -1,5 +1,5 @@
 -- Nothing is kept and nobody watches.
-use Rattle.std.proofs.Common.{◌≡◌, ℕ, List, [], ◌∷◌, ◌++◌, length, map, replicate, refl, sym, ◌∙◌, ap, arith}
+use Rattle.std.proofs.Common.{◌≡◌, [], length, map, ◌∙◌, ap, arith}
 use Rattle.std.proofs.lemmas.List.{length-replicate}
 use Rattle.tm_labels.proofs.WatchLemmas.{cuts_none, no_cuts, empty_more}
 use Rattle.tm_labels.proofs.cuts.Cuts.new.Goals as goal

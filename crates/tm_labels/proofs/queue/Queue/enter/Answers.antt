@@ -1,5 +1,5 @@
 -- After the entries the marks.
-use Rattle.std.proofs.Common.{ℕ, ◌<◌, ◌≤◌, ◌≡◌, Bool, List, length, get_or, sym, ◌∙◌, ap, subst, arith}
+use Rattle.std.proofs.Common.{◌<◌, ◌≡◌, List, length, get_or, sym, subst, arith}
 use Rattle.std.proofs.lemmas.Result.{err_from_is_err_and}
 use Rattle.tm_labels.specs.declared.queue.Entry.{Entry}
 use Rattle.tm_labels.specs.Waiting.{HaveEntries}

@@ -1,5 +1,5 @@
 -- An entry that is left from earlier is taken off, and the first other one is that of a gate that waits.
-use Rattle.std.proofs.Common.{◌≡◌, ℕ, ◌<◌, ◌≤◌, Bool, List, length, sym, ◌∙◌, ap, inl, inr, arith}
+use Rattle.std.proofs.Common.{◌≡◌, Bool, List, length, sym, ◌∙◌, ap, inl, inr, arith}
 use Rattle.std.proofs.lemmas.Bool.{cases_lt, false≢true}
 use Rattle.tm_labels.specs.Marks.{is_marked}
 use Rattle.tm_labels.proofs.QueueLemmas.{off_first, none_waits}

@@ -1,5 +1,4 @@
 -- the marks so far
-use Rattle.std.proofs.Common.{◌≡◌, ℕ, ◌<◌, length, true}
 use Rattle.tm_labels.proofs.QueueLemmas.{IsNewQueue}
 use Rattle.tm_labels.proofs.queue.Queue.new.Given as goal
 

@@ -1,5 +1,5 @@
 -- The gate has a cut, and waits no more.
-use Rattle.std.proofs.Common.{◌≡◌, ℕ, ◌-◌, ◌<◌, false, List, length, Some, sym, ◌∙◌, ap, subst, arith}
+use Rattle.std.proofs.Common.{◌≡◌, ◌-◌, ◌<◌, false, length, Some, sym, ◌∙◌, ap, subst, arith}
 use Rattle.std.specs.Prelude.{slice_set}
 use Rattle.std.proofs.lemmas.List.{length-set}
 use Rattle.tm_circuit.specs.Plain.{Plain}
@@ -7,7 +7,6 @@ use Rattle.tm_circuit.specs.Sound.{IsSound}
 use Rattle.tm_unroll.specs.Nodes.{node_at}
 use Rattle.tm_unroll.proofs.JudgeLemmas.{gate_within}
 use Rattle.tm_replay.specs.Labels.{label_in}
-use Rattle.tm_replay.specs.Replays.{drop_of}
 use Rattle.tm_merge.specs.Cuts.{IsCutWithin}
 use Rattle.tm_labels.specs.Working.{Working}
 use Rattle.tm_labels.specs.Keeping.{IsTask}

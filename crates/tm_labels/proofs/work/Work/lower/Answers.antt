@@ -1,16 +1,15 @@
 -- The label falls, and with it come those that are served too late. Where memory is wanted for them it is put back.
-use Rattle.std.proofs.Common.{◌≡◌, ℕ, ◌+◌, ◌<◌, ◌≤◌, Bool, true, List, [], ◌∷◌, ◌++◌, length, map, Option, Some, refl, sym, ◌∙◌, ap, subst, arith}
-use Rattle.std.specs.Prelude.{slice_set, is_ok}
+use Rattle.std.proofs.Common.{◌≡◌, ◌<◌, Bool, true, List, [], ◌∷◌, ◌++◌, length, map, Option, refl, sym, ◌∙◌, ap, subst, arith}
+use Rattle.std.specs.Prelude.{slice_set}
 use Rattle.tm_circuit.specs.Plain.{Plain}
 use Rattle.tm_circuit.specs.Sound.{IsSound}
-use Rattle.tm_unroll.specs.declared.node.Node.{Node}
 use Rattle.tm_replay.specs.declared.label.Label.{Label}
 use Rattle.tm_replay.specs.Labels.{label, next_below}
 use Rattle.tm_replay.specs.Replays.{Drop, drop_of, IsLawfulDrop, lowered}
 use Rattle.tm_labels.specs.Marks.{is_marked}
 use Rattle.tm_labels.specs.Watched.{Kept, Wakes, FallsWith}
 use Rattle.tm_labels.specs.Working.{Working, MayComeIn}
-use Rattle.tm_labels.specs.Keeping.{working_of, IsTask, Keeps}
+use Rattle.tm_labels.specs.Keeping.{working_of, IsTask}
 use Rattle.tm_labels.proofs.FallLemmas.{falls_on, comes_in}
 use Rattle.tm_labels.proofs.WorkLemmas.{keeps_all, lowering_as, same_as, restored, dropped}
 use Rattle.tm_labels.proofs.work.Work.lower.Goals as goal

@@ -1,11 +1,10 @@
 -- At the begin each gate that counts waits.
-use Rattle.std.proofs.Common.{◌≡◌, ℕ, ◌<◌, Bool, true, List, [], length, map, sym, ◌∙◌, ap, subst, arith, refl}
+use Rattle.std.proofs.Common.{Bool, List, [], length, map, sym, ◌∙◌, ap, subst}
 use Rattle.tm_circuit.specs.Plain.{Plain}
 use Rattle.tm_replay.specs.Replays.{Drop, drop_of}
-use Rattle.tm_labels.specs.Marks.{MarksGates, is_marked}
+use Rattle.tm_labels.specs.Marks.{MarksGates}
 use Rattle.tm_labels.specs.Keeping.{IsTask, Keeps}
 use Rattle.tm_labels.proofs.KeepLemmas.{begun}
-use Rattle.tm_labels.proofs.WorkLemmas.{keeps_as}
 use Rattle.tm_labels.proofs.work.Work.over.Goals as goal
 
 pub invariant_of-result : goal.invariant_of-result

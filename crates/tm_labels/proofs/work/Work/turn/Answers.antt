@@ -1,11 +1,11 @@
 -- A gate without a label leaves the queue, and a refusal makes a drop.
-use Rattle.std.proofs.Common.{◌≡◌, ℕ, ◌-◌, Bool, true, false, List, map, Option, None, Some, sym, ◌∙◌, ap, subst, inr, refl}
+use Rattle.std.proofs.Common.{◌≡◌, Bool, true, false, List, Option, None, Some, sym, ◌∙◌, ap, subst, inr, refl}
 use Rattle.std.specs.Prelude.{slice_set}
 use Rattle.tm_flow.specs.Lists.{lists_in}
 use Rattle.tm_unroll.specs.Nodes.{node_at}
 use Rattle.tm_replay.specs.declared.label.Label.{Label}
 use Rattle.tm_replay.specs.Labels.{label_in}
-use Rattle.tm_replay.specs.Replays.{Drop, drop_of, IsLawfulDrop}
+use Rattle.tm_replay.specs.Replays.{Drop, IsLawfulDrop}
 use Rattle.tm_labels.specs.declared.find.Step.{Step}
 use Rattle.tm_labels.specs.Steps.{IsStep}
 use Rattle.tm_labels.specs.Marks.{is_marked}

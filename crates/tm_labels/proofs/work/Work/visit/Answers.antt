@@ -1,6 +1,6 @@
 -- The cuts that are kept cover where they are not stale, and a label has an arrival from 1 to the target.
 use Rattle.std.proofs.Common.{◌≡◌, Some, sym, subst}
-use Rattle.tm_replay.specs.Labels.{label_in, IsLabelFor}
+use Rattle.tm_replay.specs.Labels.{label_in}
 use Rattle.tm_labels.specs.Working.{Working}
 use Rattle.tm_labels.proofs.WorkLemmas.{covers_as}
 use Rattle.tm_labels.proofs.work.Work.visit.Goals as goal
