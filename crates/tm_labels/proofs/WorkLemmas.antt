@@ -18,8 +18,12 @@ use Rattle.tm_replay.specs.Labels.{label_in}
 use Rattle.tm_replay.specs.Replays.{Drop, drop_of, IsLawfulDrop}
 use Rattle.tm_merge.specs.Cuts.{IsCutWithin, HaveCovers}
 use Rattle.tm_labels.specs.Marks.{is_marked}
-use Rattle.tm_labels.specs.Steps.{IsRefusal}
-use Rattle.tm_labels.specs.declared.find.Refusal.{Refusal}
+use Rattle.tm_replay.specs.Labels.{first_labels}
+use Rattle.tm_inherit.specs.declared.refusal.Refusal.{Refusal}
+use Rattle.tm_inherit.specs.Refusals.{HasBarrier, IsRefusal}
+use Rattle.tm_inherit.proofs.StandLemmas.{stands_all}
+use Rattle.tm_labels.specs.Settled.{LeadTo}
+use Rattle.tm_labels.specs.Steps.{HaveBarriers}
 use Rattle.tm_labels.specs.Watched.{AreLate}
 use Rattle.tm_labels.specs.Working.{Working, IsWorking, IsLowering, IsSameWork}
 use Rattle.tm_labels.specs.Keeping.{FitLabels, Keeps, working_of, IsKept}
@@ -106,3 +110,8 @@ keeps_all base k d target counts queued queued' labels labels' drops drops' c c'
     subst (λ (ls : List (Option Label)). Keeps base c' k d target counts queued' ls drops' leaves' stale') (sym same)
     (subst (λ (ds : List Drop). Keeps base c' k d target counts queued' labels ds leaves' stale') (sym made)
     (keeps_as base c c' k d target counts queued queued' labels drops leaves leaves' stale stale' circuit waits cuts marks keeps))
+
+-- The walks of all drops so far are barriers under the labels.
+pub have_barriers : (base : ℕ) (c : Plain) (k d target : ℕ) (drops : List Drop) (labels : List (Option Label)) → LeadTo base c k d target drops labels → HaveBarriers base c k labels drops
+have_barriers base c k d target drops labels led drop stands =
+    subst (λ (ls : List (Option Label)). HasBarrier base c k ls drop) (sym led.led) (stands_all base c k target (first_labels c.drives d target) drops drop led.replays stands)

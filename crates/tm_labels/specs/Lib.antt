@@ -1,6 +1,5 @@
 pub mod Settled
 pub mod Marks
-pub mod Waiting
 pub mod Watched
 pub mod Steps
 pub mod Working

@@ -1,22 +1,25 @@
 // What becomes of a gate that is visited: a cut of it, or walks that show that it has none.
 
-ghost use Rattle.std.specs.Prelude.{◌≡◌, ℕ, ◌<◌, ◌≤◌, ◌-◌, false, true, List, length, map, All, Contains, IfOk, IfSome};
+ghost use Rattle.std.specs.Prelude.{◌≡◌, ℕ, ◌<◌, ◌≤◌, false, true, List, length, map, All, Contains, IfOk, IfSome};
 ghost use Rattle.tm_circuit.specs.Plain.{widest};
 ghost use Rattle.tm_circuit.specs.Chain.{IsGate};
 ghost use Rattle.tm_flow.specs.Lists.{lists_in};
 ghost use Rattle.tm_unroll.specs.Nodes.{node_at};
+ghost use Rattle.tm_replay.specs.Replays.{drop_of};
 ghost use Rattle.tm_merge.specs.Cuts.{HaveCovers};
 ghost use Rattle.tm_labels.specs.Marks.{is_marked};
-ghost use Rattle.tm_labels.specs.Steps.{IsRefusal, IsStep};
+ghost use Rattle.tm_inherit.specs.Refusals.{IsRefusal};
+ghost use Rattle.tm_labels.specs.Steps.{HaveBarriers, IsStep};
 
-use crate::pins::latest_read;
+use crate::lasts::Lasts;
 use smallvec::SmallVec;
 use std::alloc::Global;
 use tm_bits::NoMemory;
-use tm_circuit::{Circuit, Signal};
+use tm_circuit::Circuit;
 use tm_flow::{Found, Searcher};
+use tm_inherit::{Aim, Refusal, inherit, latest_read};
 use tm_merge::merge;
-use tm_replay::{Label, Served, ServedFrom};
+use tm_replay::{Label, Lowering, Served, ServedFrom};
 use tm_unroll::{Node, in_order};
 
 /// What a gate at a lag comes to.
@@ -28,26 +31,9 @@ pub enum Step {
     Refused(Refusal),
 }
 
-/// Walks from a gate at a lag, each as digits, that no cut goes with that is served before an arrival.
-#[derive(Drop)]
-pub struct Refusal {
-    pub arrival: u32,
-    pub walks: Vec<Vec<u8>>,
-}
-
-/// A gate at a lag and an arrival, before which the leaves of a cut are to be served. No drop goes past the target.
-#[derive(Clone, Copy)]
-pub struct Aim {
-    pub base: u8,
-    pub k: u8,
-    pub gate: Signal,
-    pub lag: u8,
-    pub arrival: u32,
-    pub target: u32,
-}
-
 /// A cut of a gate at a lag, merged of the present cuts of others where that finds one, or walks that show that there is none before
-/// its arrival or before a later one up to the target.
+/// its arrival or before a later one up to the target. Walks are taken over from an earlier drop of what the gate reads, where that
+/// is served after the arrival alone; otherwise they are searched for where merging finds nothing.
 pub fn find(
     alloc: Global,
     searcher: &mut Searcher<Node>,
@@ -55,6 +41,8 @@ pub fn find(
     labels: &[Option<Label>],
     cuts: &[SmallVec<Node, 8>],
     stale: &[bool],
+    drops: &[Lowering],
+    lasts: &Lasts,
     aim: &Aim,
 ) -> Result<Step, NoMemory>
     requires few { aim.now.k ≤ 8 }
@@ -65,9 +53,13 @@ pub fn find(
     requires sized { (length labels.now ≡ length circuit.now.drives) × (length cuts.now ≡ length circuit.now.drives)
         × (length stale.now ≡ length circuit.now.drives) }
     requires cuts { HaveCovers circuit.now aim.now.k labels.now (λ g. is_marked stale.now g ≡ true) (map (λ cut. cut.items) cuts.now) }
+    requires drops { HaveBarriers aim.now.base circuit.now aim.now.k labels.now (map drop_of drops.now) }
     ensures { IfOk result (IsStep aim.now.base circuit.now aim.now.k labels.now aim.now.arrival aim.now.target
         (node_at aim.now.lag aim.now.gate)) }
 {
+    if let Some(refusal) = taken_over(alloc, circuit, labels, drops, lasts, aim)? {
+        return Ok(Step::Refused(refusal));
+    }
     let Aim {
         base,
         k,
@@ -82,82 +74,36 @@ pub fn find(
     )?;
     match merged {
         Some(leaves) => Ok(Step::Cut(leaves)),
-        None => {
-            let found = climb(alloc, searcher, circuit, labels, aim)?;
-            match found {
-                Some(refusal) => Ok(Step::Refused(refusal)),
-                None => search(alloc, searcher, circuit, labels, aim),
-            }
-        }
+        None => search(alloc, searcher, circuit, labels, aim),
     }
 }
 
-/// Walks that show that a gate at a lag has no cut before a later arrival, where a search or two find some. They spare the drops below
-/// it. The first is tried at the arrival at which the latest is served that the gate reads, the other one before that.
-fn climb(
+/// Walks that show that a gate at a lag has no cut before its arrival or a later one, taken over from what it reads last, where that
+/// is served after the arrival alone.
+fn taken_over(
     alloc: Global,
-    searcher: &mut Searcher<Node>,
     circuit: &Circuit,
     labels: &[Option<Label>],
+    drops: &[Lowering],
+    lasts: &Lasts,
     aim: &Aim,
 ) -> Result<Option<Refusal>, NoMemory>
-    requires few { aim.now.k ≤ 8 }
     requires gate { IsGate circuit.now.drives aim.now.gate }
-    requires lag { aim.now.lag < 256 }
     requires some { 1 ≤ aim.now.arrival }
     requires most { aim.now.arrival ≤ aim.now.target }
-    requires sized { length labels.now ≡ length circuit.now.drives }
+    requires drops { HaveBarriers aim.now.base circuit.now aim.now.k labels.now (map drop_of drops.now) }
     ensures { IfOk result (λ found. IfSome found
         (IsRefusal aim.now.base circuit.now aim.now.k labels.now aim.now.arrival aim.now.target (node_at aim.now.lag aim.now.gate))) }
 {
-    let latest = latest_read(aim.base, circuit, labels, aim.gate, aim.lag).min(aim.target);
-    let found = leap(alloc, searcher, circuit, labels, aim, latest)?;
-    if found.is_some() {
-        return Ok(found);
-    }
-    leap(
-        alloc,
-        searcher,
-        circuit,
-        labels,
-        aim,
-        latest.saturating_sub(1),
-    )
-}
-
-/// Walks that show that a gate at a lag has no cut before a later arrival, where that is later and it has none.
-fn leap(
-    alloc: Global,
-    searcher: &mut Searcher<Node>,
-    circuit: &Circuit,
-    labels: &[Option<Label>],
-    aim: &Aim,
-    later: u32,
-) -> Result<Option<Refusal>, NoMemory>
-    requires few { aim.now.k ≤ 8 }
-    requires gate { IsGate circuit.now.drives aim.now.gate }
-    requires lag { aim.now.lag < 256 }
-    requires some { 1 ≤ aim.now.arrival }
-    requires most { later ≤ aim.now.target }
-    requires sized { length labels.now ≡ length circuit.now.drives }
-    ensures { IfOk result (λ found. IfSome found
-        (IsRefusal aim.now.base circuit.now aim.now.k labels.now aim.now.arrival aim.now.target (node_at aim.now.lag aim.now.gate))) }
-{
-    if later <= aim.arrival {
+    let latest = latest_read(aim.base, circuit, labels, aim.gate, aim.lag);
+    let Some(read) = latest else {
+        return Ok(None);
+    };
+    if read.number <= aim.arrival {
         return Ok(None);
     }
-    let later = Aim {
-        base: aim.base,
-        k: aim.k,
-        gate: aim.gate,
-        lag: aim.lag,
-        arrival: later,
-        target: aim.target,
-    };
-    match search(alloc, searcher, circuit, labels, &later)? {
-        Step::Cut(_) => Ok(None),
-        Step::Refused(refusal) => Ok(Some(refusal)),
-    }
+    let last = lasts.last(drops, read.node);
+    inherit(alloc, circuit, labels, aim, &read, last)
 }
 
 /// A cut before the arrival or walks, by one search.

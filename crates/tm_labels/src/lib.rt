@@ -6,9 +6,10 @@
 mod cuts;
 mod find;
 mod first;
+mod lasts;
 mod lost;
 mod marks;
-mod pins;
+mod order;
 mod queue;
 mod settled;
 mod settling;
@@ -17,6 +18,7 @@ mod tests;
 mod watcher;
 mod work;
 
+pub use lost::{have_lost_from, need_of};
 pub use settled::Settled;
 pub use settling::{settle, settle_outputs};
 pub use work::Work;

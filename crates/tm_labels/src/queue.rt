@@ -1,47 +1,34 @@
 // The gates that wait for a visit.
 
-ghost use Rattle.std.specs.Prelude.{◌≡◌, ◌↔◌, ◌<◌, false, true, length, IsTrue, All, slice_set, IfOk, OnOk, OnErr, MatchOption};
+ghost use Rattle.std.specs.Prelude.{◌≡◌, ◌↔◌, ◌<◌, ◌^◌, false, true, length, IsTrue, All, slice_set, IfOk, OnOk, OnErr, MatchOption};
 ghost use Rattle.tm_circuit.specs.Chain.{IsGate};
 ghost use Rattle.tm_labels.specs.Marks.{is_marked, IsUnmarked, MarksGates, JoinsMarks};
 
-use crate::marks::{is_marked, label_of};
+use crate::marks::is_marked;
+use crate::order::Order;
 use std::alloc::Global;
-use std::collections::BinaryHeap;
 use std::marker::Model;
 use tm_bits::NoMemory;
 use tm_circuit::{Circuit, Driver, Signal};
 use tm_replay::Label;
-
-/// A gate that may wait. The greatest entry is visited first: the one of the worst label, then of the least rank.
-#[derive(Clone, Copy, PartialEq, Eq, PartialOrd, Ord)]
-pub struct Entry {
-    /// Greater where the label has less lag.
-    loss: u8,
-    arrival: u32,
-    /// Greater where the rank is less.
-    early: u32,
-    gate: Signal,
-}
 
 /// The gates that wait. Which of them comes first is left open.
 #[derive(Drop)]
 pub struct Queue {
     /// Whether each signal waits.
     queued: Vec<bool>,
-    /// One or more for each gate that waits, and some that are left from earlier.
-    entries: BinaryHeap<Entry>,
+    /// Where a gate that waits is looked for first.
+    order: Order,
 }
 
 impl Model for Queue {
-    ghost use Rattle.std.specs.Prelude.{Bool, List};
+    ghost use Rattle.std.specs.Prelude.{Bool, List, ◌<◌, ◌^◌, length};
 
     ghost Value = { List Bool };
 
-    ghost use Rattle.tm_labels.specs.Waiting.{HaveEntries};
-
     ghost view = { λ q. q.queued.items };
 
-    ghost invariant = { λ q. HaveEntries q.queued.items q.entries.data.items };
+    ghost invariant = { λ q. length q.queued.items < 2 ^ 32 };
 }
 
 impl Queue {
@@ -51,21 +38,22 @@ impl Queue {
         circuit: &Circuit,
         labels: &[Option<Label>],
         counts: &[bool],
+        order: Order,
     ) -> Result<Queue, NoMemory>
         requires { length counts.now ≡ length circuit.now.drives }
         ensures { IfOk result (MarksGates circuit.now.drives counts.now) }
     {
+        let mut order = order;
         let mut queued = Vec::with_capacity(alloc, counts.len())?;
-        let mut entries = BinaryHeap::with_capacity(alloc, counts.len())?;
         for s in 0..circuit.signals() {
             let signal = Signal(s);
             let waits = is_counting_gate(circuit, counts, signal);
             if waits {
-                entries.push(entry_of(circuit, labels, signal))?;
+                order.add(circuit, labels, signal)?;
             }
             queued.push(waits)?;
         }
-        Ok(Queue { queued, entries })
+        Ok(Queue { queued, order })
     }
 
     /// Whether each signal waits.
@@ -80,14 +68,18 @@ impl Queue {
         ensures same { self.new ≡ self.old }
         ensures first { MatchOption result (IsUnmarked self.old) (λ g. is_marked self.old g ≡ true) }
     {
-        while let Some(entry) = self.entries.peek() {
-            let gate = entry.gate;
-            if is_marked(&self.queued, gate) {
-                return Some(gate);
-            }
-            let _ = self.entries.pop();
+        match self.order.first(&self.queued) {
+            Some(gate) if is_marked(&self.queued, gate) => Some(gate),
+            Some(_) | None => first_marked(&self.queued),
         }
-        None
+    }
+
+    /// The label of a gate that waits has fallen.
+    pub fn fall(&mut self, circuit: &Circuit, labels: &[Option<Label>], gate: Signal)
+        requires { gate < length circuit.now.drives }
+        ensures { self.new ≡ self.old }
+    {
+        self.order.fall(circuit, labels, gate);
     }
 
     /// A gate waits no more.
@@ -96,6 +88,15 @@ impl Queue {
         ensures { self.new ≡ slice_set self.old gate false }
     {
         self.queued[gate.0 as usize] = false;
+    }
+
+    /// The same for a gate that has lost its label.
+    pub fn leave_lost(&mut self, gate: Signal)
+        requires { gate < length self.old }
+        ensures { self.new ≡ slice_set self.old gate false }
+    {
+        self.leave(gate);
+        self.order.lose(gate);
     }
 
     /// Some gates wait, too. After `NoMemory` those wait that waited before.
@@ -110,12 +111,8 @@ impl Queue {
         ensures joins { OnOk result (JoinsMarks gates.now self.old self.new) }
         ensures same { OnErr result (self.new ≡ self.old) }
     {
-        for gate in gates {
-            self.entries.push(entry_of(circuit, labels, *gate))?;
-        }
-        for gate in gates {
-            self.queued[gate.0 as usize] = true;
-        }
+        self.order.add_all(circuit, labels, gates)?;
+        mark_all(&mut self.queued, gates);
         Ok(())
     }
 }
@@ -128,24 +125,25 @@ fn is_counting_gate(circuit: &Circuit, counts: &[bool], s: Signal) -> bool
     is_marked(counts, s) && matches!(circuit.driver(s), Driver::Gate { .. })
 }
 
-/// The entry of a gate under labels. A gate without a label comes first, since it leaves at once.
-fn entry_of(circuit: &Circuit, labels: &[Option<Label>], gate: Signal) -> Entry
-    requires { gate < length circuit.now.drives }
-    ensures { result.gate ≡ gate }
+/// The first signal that is marked.
+fn first_marked(marks: &[bool]) -> Option<Signal>
+    requires { length marks.now < 2 ^ 32 }
+    ensures { MatchOption result (IsUnmarked marks.now) (λ g. is_marked marks.now g ≡ true) }
 {
-    let early = u32::MAX - circuit.rank(gate);
-    match label_of(labels, gate) {
-        None => Entry {
-            loss: u8::MAX,
-            arrival: u32::MAX,
-            early,
-            gate,
-        },
-        Some(label) => Entry {
-            loss: u8::MAX - label.lag,
-            arrival: label.arrival,
-            early,
-            gate,
-        },
+    for (s, marked) in marks.iter().enumerate() {
+        if *marked {
+            return Some(Signal(s as u32));
+        }
+    }
+    None
+}
+
+/// Marks some signals.
+fn mark_all(marks: &mut [bool], signals: &[Signal])
+    requires { All (λ s. s < length marks.old) signals.now }
+    ensures { JoinsMarks signals.now marks.old marks.new }
+{
+    for s in signals {
+        marks[s.0 as usize] = true;
     }
 }

@@ -6,6 +6,7 @@ ghost use Rattle.tm_circuit.specs.Plain.{widest};
 ghost use Rattle.tm_labels.specs.Settled.{IsSettled, IsSettledOrLost};
 
 use crate::lost::{have_lost_from, need_of};
+use crate::order::towards_outputs;
 use crate::settled::Settled;
 use crate::work::Work;
 use std::alloc::Global;
@@ -54,7 +55,8 @@ pub fn settle_outputs(
 {
     let counts = leads_to_output(alloc, circuit)?;
     let needs = needs(alloc, base, circuit)?;
-    let mut work = Work::over(alloc, base, circuit, k, d, target, counts)?;
+    let towards = towards_outputs(alloc, circuit)?;
+    let mut work = Work::over(alloc, base, circuit, k, d, target, counts, towards)?;
     while work.turn()? {
         if may_have_lost(&needs, &work) && have_lost_from(base, circuit, work.labels()) {
             return Ok(work.into_settled());

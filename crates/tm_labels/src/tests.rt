@@ -33,6 +33,8 @@ const LAG_0_ARRIVAL_3: Option<Label> = Some(Label { lag: 0, arrival: 3 });
 
 const LAG_1: Option<Label> = Some(Label { lag: 1, arrival: 1 });
 
+const LAG_1_ARRIVAL_2: Option<Label> = Some(Label { lag: 1, arrival: 2 });
+
 const LAG_3: Option<Label> = Some(Label { lag: 3, arrival: 1 });
 
 /// Three gates in a loop with one latch, each with an input of its own.
@@ -83,7 +85,7 @@ const CHAIN: Row = Row {
     labels: &[LAG_0_ARRIVAL_1, LAG_0_ARRIVAL_2, LAG_0_ARRIVAL_3],
 };
 
-const ROWS: [Row; 10] = [
+const ROWS: [Row; 13] = [
     RING,
     Row {
         target: 3,
@@ -94,6 +96,14 @@ const ROWS: [Row; 10] = [
     Row {
         target: 0,
         labels: &[None, None, None],
+        ..FOUR
+    },
+    // More lag than there are registers.
+    Row { d: 8, ..FOUR },
+    Row {
+        d: 8,
+        target: 2,
+        labels: &[LAG_1, LAG_1, LAG_1_ARRIVAL_2],
         ..FOUR
     },
     LOOP,
@@ -122,6 +132,12 @@ const ROWS: [Row; 10] = [
         ..LOOP
     },
     CHAIN,
+    // The second table takes the first gate in.
+    Row {
+        k: 3,
+        labels: &[LAG_0_ARRIVAL_1, LAG_0_ARRIVAL_1, LAG_0_ARRIVAL_2],
+        ..CHAIN
+    },
     Row {
         target: 1,
         labels: &[LAG_0_ARRIVAL_1, None, None],
@@ -239,13 +255,14 @@ fn rows(rt: HostRuntime) -> Result<(), Fail> {
     Ok(())
 }
 
-/// The second gate falls to arrival 2, and so the third has no cut before 2, and falls to 3 at once.
+/// The second gate falls to arrival 2. The third takes its drop over, and then has one of its own.
 #[test]
-fn a_drop_leaps(rt: HostRuntime) -> Result<(), Fail> {
+fn a_drop_is_taken_over(rt: HostRuntime) -> Result<(), Fail> {
     let chain = circuit(rt.alloc(), &CHAIN)?;
     let settled = settled(&rt, rt.alloc(), &chain, &CHAIN)?;
-    assert_eq!(rt; settled.drops().len(), 2);
-    for (drop, expected) in settled.drops().iter().zip([(Signal(5), 1), (Signal(6), 2)]) {
+    let expected = [(Signal(5), 1), (Signal(6), 1), (Signal(6), 2)];
+    assert_eq!(rt; settled.drops().len(), expected.len());
+    for (drop, expected) in settled.drops().iter().zip(expected) {
         assert_eq!(rt; (drop.gate, drop.arrival), expected);
     }
     Ok(())

@@ -13,9 +13,11 @@ ghost use Rattle.tm_labels.specs.Steps.{IsStep};
 ghost use Rattle.tm_labels.specs.Working.{IsWorking, IsSameWork, IsTurn, IsLeaving, IsLowering, IsBegun, settling_of};
 
 use crate::cuts::Cuts;
-use crate::find::{Aim, Step, find};
+use crate::find::{Step, find};
 use crate::first::first_labels;
+use crate::lasts::Lasts;
 use crate::marks::{is_marked, label_of};
+use crate::order::Order;
 use crate::queue::Queue;
 use crate::settled::Settled;
 use smallvec::SmallVec;
@@ -24,6 +26,8 @@ use std::marker::Model;
 use tm_bits::NoMemory;
 use tm_circuit::{Circuit, Signal};
 use tm_flow::Searcher;
+use tm_inherit::Aim;
+use tm_merge::greatest_lags;
 use tm_replay::{Label, Lowering};
 use tm_unroll::Node;
 
@@ -41,6 +45,7 @@ pub struct Work<'a> {
     /// One for each signal.
     labels: Vec<Option<Label>>,
     drops: Vec<Lowering>,
+    lasts: Lasts,
     cuts: Cuts<'a>,
     queue: Queue,
     searcher: Searcher<Node>,
@@ -74,10 +79,11 @@ impl<'a> Work<'a> {
         ensures { IfOk result (IsBegun 0 circuit.entry.now k d target (replicate (length circuit.entry.now.drives) true)) }
     {
         let counts = vec![in alloc; true; circuit.signals() as usize]?;
-        Work::over(alloc, 0, circuit, k, d, target, counts)
+        Work::over(alloc, 0, circuit, k, d, target, counts, Vec::new(alloc))
     }
 
-    /// The same over the gates that count, with a base, the advance that stands for the present.
+    /// The same over the gates that count, with a base, the advance that stands for the present. Where a gate has lost its label, the
+    /// one comes first to which it leads by the last list.
     pub(crate) fn over(
         alloc: Global,
         base: u8,
@@ -86,6 +92,7 @@ impl<'a> Work<'a> {
         d: u8,
         target: u32,
         counts: Vec<bool>,
+        towards: Vec<u32>,
     ) -> Result<Work<'a>, NoMemory>
         requires few { (2 ≤ k) × (k ≤ most_inputs) }
         requires base { base ≤ 8 }
@@ -96,8 +103,11 @@ impl<'a> Work<'a> {
         ensures { IfOk result (IsBegun base circuit.entry.now k d target counts.items) }
     {
         let labels = first_labels(alloc, circuit, d, target)?;
-        let queue = Queue::new(alloc, circuit, &labels, &counts)?;
+        let foreseen = greatest_lags(alloc, base, circuit, d, &counts)?;
+        let order = Order::new(alloc, circuit, foreseen, towards)?;
+        let queue = Queue::new(alloc, circuit, &labels, &counts, order)?;
         let cuts = Cuts::new(alloc, circuit)?;
+        let lasts = Lasts::new(alloc, circuit.signals(), d)?;
         Ok(Work {
             alloc,
             base,
@@ -107,6 +117,7 @@ impl<'a> Work<'a> {
             counts,
             labels,
             drops: Vec::new(alloc),
+            lasts,
             cuts,
             queue,
             searcher: Searcher::new(alloc),
@@ -156,7 +167,7 @@ impl<'a> Work<'a> {
             return Ok(false);
         };
         let Some(label) = label_of(&self.labels, gate) else {
-            self.queue.leave(gate);
+            self.queue.leave_lost(gate);
             return Ok(true);
         };
         match self.visit(gate, label)? {
@@ -193,6 +204,8 @@ impl<'a> Work<'a> {
             &self.labels,
             self.cuts.leaves(),
             self.cuts.stale(),
+            &self.drops,
+            &self.lasts,
             &aim,
         )
     }
@@ -249,6 +262,8 @@ impl<'a> Work<'a> {
             }
             Ok(()) => {
                 self.cuts.fall(gate, lag, next);
+                self.lasts.note(gate, lag, self.drops.len());
+                self.queue.fall(self.cuts.circuit(), &self.labels, gate);
                 // There is room for it.
                 let _ = self.drops.push(drop);
                 Ok(())

@@ -238,7 +238,7 @@ impl Merging {
 }
 
 /// The node to which latches lead from a signal at an advance, with one advance less for each.
-pub(crate) fn behind_latches(circuit: &Circuit, s: Signal, advance: u8) -> Node
+pub fn behind_latches(circuit: &Circuit, s: Signal, advance: u8) -> Node
     requires { s < length circuit.now.drives }
     ensures { result ≡ behind_latches circuit.now.drives advance s }
 {

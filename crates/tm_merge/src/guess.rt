@@ -5,6 +5,7 @@
 // which a cut is found, and then the gates wait whose cuts rest on the better label. Labels only fall, so that this ends.
 
 use crate::cuts::{Moment, behind_latches};
+use crate::lags::{marked_order, most_lags};
 use crate::outputs::leads_to_output;
 use crate::pins::{Pins, label_of, number_of};
 use crate::queue::Queue;
@@ -275,17 +276,6 @@ impl<'a> Guess<'a> {
     }
 }
 
-/// The marked gates, each after those among its pins.
-fn marked_order(alloc: Global, circuit: &Circuit, marks: &[bool]) -> Result<Vec<Signal>, NoMemory> {
-    let mut order = Vec::new(alloc);
-    for gate in circuit.order() {
-        if marks.get(gate.0 as usize) == Some(&true) {
-            order.push(*gate)?;
-        }
-    }
-    Ok(order)
-}
-
 /// The place of each gate in an order.
 fn places_by_signal(alloc: Global, signals: usize, order: &[Signal]) -> Result<Vec<u32>, NoMemory> {
     let mut places = vec![in alloc; u32::MAX; signals]?;
@@ -295,40 +285,6 @@ fn places_by_signal(alloc: Global, signals: usize, order: &[Signal]) -> Result<V
         }
     }
     Ok(places)
-}
-
-/// The greatest lag that each gate may have: no more than the base and the latches on each path from an input.
-fn most_lags(
-    alloc: Global,
-    base: u8,
-    d: u8,
-    signals: usize,
-    order: &[Signal],
-    pins: &Pins,
-) -> Result<Vec<u8>, NoMemory> {
-    let mut least = vec![in alloc; d; signals]?;
-    for _round in 0..=d {
-        let mut is_done = true;
-        for gate in order {
-            let mut latches = d;
-            for pin in pins.of(*gate) {
-                latches = latches.min(pin.least_latches(&least));
-            }
-            if let Some(at) = least.get_mut(gate.0 as usize) {
-                if latches < *at {
-                    *at = latches;
-                    is_done = false;
-                }
-            }
-        }
-        if is_done {
-            break;
-        }
-    }
-    for latches in least.iter_mut() {
-        *latches = latches.saturating_add(base).min(d);
-    }
-    Ok(least)
 }
 
 /// The lag that the outputs need of each signal.

@@ -6,6 +6,7 @@
 
 mod cuts;
 mod guess;
+mod lags;
 mod outputs;
 mod pins;
 mod queue;
@@ -13,6 +14,7 @@ mod queue;
 mod tests;
 mod watchers;
 
-pub use cuts::merge;
+pub use cuts::{behind_latches, merge};
 pub use guess::{Guess, can_settle};
+pub use lags::greatest_lags;
 pub use outputs::leads_to_output;

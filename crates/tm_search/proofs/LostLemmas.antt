@@ -39,39 +39,3 @@ lost_or_kept need c sound labels =
       | inl (s, stands, lost) ↦ inl (s, stands, lost)
       | inr none ↦ inr (λ (s, stands, lost). none s stands lost)
     ]
-
--- ---- the need of an output
-
--- Latches lead on from a signal as from the output that is asked for.
-pub record LeadsAs (drives : List Drive) (base output left at : ℕ) : Type 0 where
-  pub within : at < length drives
-  pub same : behind_latches drives base output ≡ behind_latches drives left at
-
--- A driver that is no latch.
-pub no_latch : (driver : Driver) → ((next : ℕ) (init : Bool) → driver ≡ Latch next init → ⊥) → is_latch (drive_of driver) ≡ false
-no_latch FromInput other = refl
-no_latch (Latch next init) other = absurd (other next init refl)
-no_latch (FromGate pins cover) other = refl
-
--- One latch further.
-pub leads_next : (drives : List Drive) (base output left less at next : ℕ) (init : Bool) → left ≡ suc less → drive_in drives at ≡ latch next init → next < length drives
-    → LeadsAs drives base output left at → LeadsAs drives base output less next
-leads_next drives base output left less at next init one is within leads = record {
-  within = within;
-  same = leads.same ∙ ap (λ n. behind_latches drives n at) one ∙ ap (λ (dr : Drive). behind_of dr (node_at (suc less) at) (λ t. behind_latches drives less t)) is;
-}
-
--- What is no latch ends the way, and what is left of the base is the need.
-pub leads_end : (drives : List Drive) (base output left less at : ℕ) → left ≡ suc less → is_latch (drive_in drives at) ≡ false
-    → LeadsAs drives base output left at → (behind_latches drives base output).advance ≡ left
-leads_end drives base output left less at one other leads =
-    ap (λ (x : Node). x.advance) (leads.same ∙ ap (λ n. behind_latches drives n at) one) ∙ stays (drive_in drives at) other ∙ sym one
-  where
-    stays : (dr : Drive) → is_latch dr ≡ false → (behind_of dr (node_at (suc less) at) (λ t. behind_latches drives less t)).advance ≡ suc less
-    stays input h = refl
-    stays (latch next init) h = cc
-    stays (gate pins cover) h = refl
-
--- Nothing is left where the base is used up.
-pub leads_out : (drives : List Drive) (base output at : ℕ) → LeadsAs drives base output 0 at → (behind_latches drives base output).advance ≡ 0
-leads_out drives base output at leads = ap (λ (x : Node). x.advance) leads.same

@@ -8,11 +8,10 @@ ghost use Rattle.tm_labels.specs.Settled.{IsSettled};
 ghost use Rattle.tm_search.specs.Least.{Refutes, Reaches, IsLeast};
 ghost use Rattle.tm_search.specs.Tried.{IsTried, IsFound};
 
-use crate::lost::have_lost_from;
 use std::alloc::Global;
 use tm_bits::NoMemory;
 use tm_circuit::Circuit;
-use tm_labels::{Settled, settle, settle_outputs};
+use tm_labels::{Settled, have_lost_from, settle, settle_outputs};
 use tm_merge::Guess;
 
 /// The least period that any lawful mapping has.

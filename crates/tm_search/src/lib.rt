@@ -4,7 +4,6 @@
 
 pub mod laws;
 mod least;
-mod lost;
 #[cfg(test)]
 mod tests;
 

@@ -62,8 +62,8 @@ invariant_of-self-in-Ok c =
       task = subst (λ (p : Plain). IsTask a.base p a.k a.d a.target) (sym circuit) c.self.invariant.task;
       stale_sized = falls.stale_sized ∙ ap (λ (x : Kept). length x.stale) same ∙ c.self.invariant.stale_sized ∙ ap (λ (p : Plain). length p.drives) (sym circuit);
       leaves_sized = falls.leaves_sized ∙ ap (λ (x : Kept). length x.leaves) same ∙ c.self.invariant.leaves_sized ∙ ap (λ (p : Plain). length p.drives) (sym circuit);
-      keeps = keeps_all a.base a.k a.d a.target a.counts.items c.wake-woken.new.queue c.wake-woken.new.queue (lowered a.target a.labels.items drop) _ (map drop_of a.drops.items ++ drop ∷ []) (map drop_of c.push.new.self.items)
-          a.cuts.circuit c.fall.new.self.circuit c.fall.new.self.leaves c.fall.new.self.leaves c.fall.new.self.stale c.fall.new.self.stale refl labels_are pushed circuit refl refl keeps;
+      keeps = keeps_all a.base a.k a.d a.target a.counts.items c.wake-woken.new.queue c.fall-in-Ok.new.self (lowered a.target a.labels.items drop) _ (map drop_of a.drops.items ++ drop ∷ []) (map drop_of c.push.new.self.items)
+          a.cuts.circuit c.fall.new.self.circuit c.fall.new.self.leaves c.fall.new.self.leaves c.fall.new.self.stale c.fall.new.self.stale c.fall-in-Ok.ensures labels_are pushed circuit refl refl keeps;
     }
 
 pub returns-in-Ok-clause-lowers : goal.returns-in-Ok-clause-lowers
@@ -86,9 +86,9 @@ returns-in-Ok-clause-lowers c =
     ∙ ap (λ (ls : List _). map drop_of ls ++ drop ∷ []) c.reserve.ensures.items in
     let came = comes_in a.base a.cuts.circuit a.k a.d a.target a.counts.items a.queue a.labels.items (map drop_of a.drops.items) a.cuts.leaves a.cuts.stale sound c.self.invariant.keeps drop lawful waits c.wake-woken.new.queue wakes in
     lowering_as drop (working_of a) c.args.self.now c.self.view_is (record {
-      task = record { base = refl; circuit = circuit; k = refl; d = refl; target = refl; counts = refl; sized = wakes.joins.sized };
+      task = record { base = refl; circuit = circuit; k = refl; d = refl; target = refl; counts = refl; sized = ap length c.fall-in-Ok.ensures ∙ wakes.joins.sized };
       added = pushed;
       labels = labels_are;
-      stays = wakes.joins.stays;
-      comes = λ g now before. subst (λ (ls : List (Option Label)). MayComeIn a.cuts.circuit ls drop.gate g) (sym labels_are) (came g now before);
+      stays = λ g was. ap (λ (q : List Bool). is_marked q g) c.fall-in-Ok.ensures ∙ wakes.joins.stays g was;
+      comes = λ g now before. subst (λ (ls : List (Option Label)). MayComeIn a.cuts.circuit ls drop.gate g) (sym labels_are) (came g (ap (λ (q : List Bool). is_marked q g) (sym c.fall-in-Ok.ensures) ∙ now) before);
     })

@@ -24,8 +24,8 @@ invariant_of-self-in_default-label_of c =
       task = c.self.invariant.task;
       stale_sized = c.self.invariant.stale_sized;
       leaves_sized = c.self.invariant.leaves_sized;
-      keeps = keeps_as a.base a.cuts.circuit a.cuts.circuit a.k a.d a.target a.counts.items (slice_set a.queue g false) c.leave.new.self a.labels.items _ a.cuts.leaves a.cuts.leaves a.cuts.stale a.cuts.stale
-          refl (c.leave.ensures ∙ ap (λ (q : List Bool). slice_set q g false) c.first.ensures.same) refl refl
+      keeps = keeps_as a.base a.cuts.circuit a.cuts.circuit a.k a.d a.target a.counts.items (slice_set a.queue g false) c.leave_lost.new.self a.labels.items _ a.cuts.leaves a.cuts.leaves a.cuts.stale a.cuts.stale
+          refl (c.leave_lost.ensures ∙ ap (λ (q : List Bool). slice_set q g false) c.first.ensures.same) refl refl
           (leaves_without a.base a.cuts.circuit a.k a.d a.target a.counts.items a.queue a.labels.items _ a.cuts.leaves a.cuts.stale c.self.invariant.keeps g gone);
     }
 
