@@ -1,0 +1,6 @@
+pub mod AgreeLemmas
+pub mod MappedLemmas
+pub mod VerdictLemmas
+pub mod ClaimLemmas
+pub mod SpellLemmas
+pub mod DropLemmas

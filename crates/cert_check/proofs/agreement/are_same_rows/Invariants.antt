@@ -1,0 +1,6 @@
+-- the rows so far are the same
+use Rattle.std.proofs.Common.{◌≡◌, ℕ, ◌<◌, slice_get}
+use Rattle.cert_check.proofs.agreement.are_same_rows.Given as goal
+
+abbrev pub invariant-loop-i : goal.invariant-loop-i
+invariant-loop-i l = (k : ℕ) → k < l.i → slice_get l.rows k ≡ slice_get l.others k
