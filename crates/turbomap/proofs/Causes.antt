@@ -20,6 +20,7 @@ file_cause c s input refusal.NoMemory among is = refl
 file_cause c s input (refusal.Unread line) among is = among _ _ is
 file_cause c s input (refusal.BadText line) among is = absurd is
 file_cause c s input (refusal.TooLong line) among is = inl (among _ _ is)
+file_cause c s input (refusal.NotAccepted line) among is = absurd is
 
 -- texts that are refused are a cause, where they are those of the command's files
 pub text_cause : (c : Command) (s : Stored) (texts : List (List ℕ)) (why : Refusal) → AreTexts s.before c.inputs texts → IsTextRefusal c texts why
@@ -28,6 +29,7 @@ text_cause c s texts refusal.NoMemory read is = refl
 text_cause c s texts (refusal.Unread line) read is = absurd is
 text_cause c s texts (refusal.BadText line) read is = record { texts = texts; read = read; refused = is }
 text_cause c s texts (refusal.TooLong line) read is = inr (record { texts = texts; read = read; refused = is })
+text_cause c s texts (refusal.NotAccepted line) read is = record { texts = texts; read = read; refused = is }
 
 -- a file that is refused after other reads
 pub later_refusal : (input : Input) (s t : Stored) (why : Refusal) → t.before ≡ s.before → s.unread_before input.name ≤ t.unread_before input.name
@@ -46,6 +48,7 @@ later_refusal input s t (refusal.TooLong line) files le counts is = record {
   };
   line_is = is.line_is;
 }
+later_refusal input s t (refusal.NotAccepted line) files le counts is = absurd is
 
 -- a text that was read after other reads
 pub later_text : (before now : Option Files) (input : Input) (text : List ℕ) → now ≡ before → IsText now input text → IsText before input text

@@ -1,52 +1,133 @@
 -- Of each command: its refusals exclude each other, and what it makes and accepts.
-use Rattle.std.proofs.Common.{◌≡◌, ◌≤◌, inl, inr, ℕ, Bool, List, [], ◌∷◌, Ok, length, subst, sym, ap, ◌∙◌, arith}
+use Rattle.std.proofs.Common.{◌≡◌, ◌≤◌, ◌⊎◌, inl, inr, ℕ, Bool, List, [], ◌∷◌, Option, Ok, subst, sym, ap, ◌∙◌, arith}
 use Rattle.tm_circuit.specs.Plain.{Plain, input_count}
 use Rattle.tm_sim.specs.Vectors.{vectors_of}
-use Rattle.tm_split.specs.Subject.{subject_of}
 use Rattle.blif_read.proofs.OneCircuit.{excluded}
 use Rattle.blif_read.proofs.SomeCircuit.{same_circuit}
+use Rattle.tm_texts.specs.Limits.{output_bytes, mapped_limits}
+use Rattle.tm_texts.specs.Checks.{AreAcceptable}
+use Rattle.tm_texts.specs.Simulates.{HasRows, bytes_of}
+use Rattle.tm_texts.proofs.Excluded.{mappable_blamed, cert_faulty, acceptable_maps, acceptable_fails, accepted_acceptable}
 use Rattle.turbomap.specs.declared.status.Status.{Status}
+use Rattle.turbomap.specs.declared.status.Status.TheVariants.{BadText}
+use Rattle.turbomap.specs.Check.{IsFaultyMapped, IsFaultyCert, IsVerdictNo, CheckRefuses, CheckAccepts, CheckMakes, check_command}
 use Rattle.turbomap.specs.Command.{Write}
-use Rattle.tm_split.specs.Limits.{most_subject_signals}
-use Rattle.turbomap.specs.Limits.{output_bytes, mapped_limits}
-use Rattle.turbomap.specs.Map.{Blame, fault, too_large, IsMappable, IsBlamed, MapRefuses, MapAccepts, MapMakes, map_command}
+use Rattle.turbomap.specs.Map.{IsBlamedBy, MapRefuses, MapAccepts, MapMakes, map_command}
 use Rattle.turbomap.specs.Run.{command_of}
 use Rattle.turbomap.specs.Show.{ShowRefuses, ShowAccepts, ShowMakes, show_command}
-use Rattle.turbomap.specs.Simulate.{HasRows, bytes_of, AreFaultyVectors, SimRefuses, SimAccepts, SimMakes, sim_command}
-use Rattle.turbomap.specs.Words.{Asked, map_files, sim_files, show_file}
+use Rattle.turbomap.specs.Simulate.{AreFaultyVectors, SimRefuses, SimAccepts, SimMakes, sim_command}
+use Rattle.turbomap.specs.Words.{Asked, map_files, check_files, sim_files, show_file}
 use Rattle.turbomap.proofs.Statuses.{IsDecided}
 
 -- ---- map
-
-mappable_blamed : (k : ℕ) (blame : Blame) (text : List ℕ) → IsBlamed k text blame → IsMappable k text → ⊥
-mappable_blamed k (fault line kind) text blamed mappable = blamed.none mappable.circuit mappable.of_text
-mappable_blamed k too_large text blamed mappable =
-    let few : length (subject_of k blamed.circuit).drives ≤ most_subject_signals
-    = subst (λ (c : Plain). length (subject_of k c).drives ≤ most_subject_signals) (blamed.only mappable.circuit mappable.of_text) mappable.few in
-    omega (arith, few, blamed.many)
 
 map_status : (k : ℕ) (input : List ℕ) (texts : List (List ℕ)) (s t : Status) (l m : List ℕ) → MapRefuses k input texts s l → MapRefuses k input texts t m → s ≡ t
 map_status k input [] s t l m one other = absurd one
 map_status k input (text ∷ []) s t l m one other = one.status_is ∙ sym other.status_is
 map_status k input (text ∷ more ∷ texts) s t l m one other = absurd one
 
-map_made : (k d : ℕ) (input output : List ℕ) (texts : List (List ℕ)) (s : Status) (l : List ℕ) (writes : List Write) (lines : List (List ℕ))
-    → MapRefuses k input texts s l → MapMakes k d output texts writes lines → ⊥
-map_made k d input output [] s l writes lines refused made = absurd made
-map_made k d input output (text ∷ []) s l writes lines refused made =
+map_made : (k d : ℕ) (input output : List ℕ) (cert : Option (List ℕ)) (texts : List (List ℕ)) (s : Status) (l : List ℕ) (writes : List Write)
+    (lines : List (List ℕ)) → MapRefuses k input texts s l → MapMakes k d output cert texts writes lines → ⊥
+map_made k d input output cert [] s l writes lines refused made = absurd made
+map_made k d input output cert (text ∷ []) s l writes lines refused made =
     mappable_blamed k refused.blame text refused.blamed (record { circuit = made.maps.source; of_text = made.maps.of_text; few = made.maps.few })
-map_made k d input output (text ∷ more ∷ texts) s l writes lines refused made = absurd made
+map_made k d input output cert (text ∷ more ∷ texts) s l writes lines refused made = absurd made
 
 map_accepted : (k : ℕ) (input : List ℕ) (texts : List (List ℕ)) (s : Status) (l : List ℕ) → MapRefuses k input texts s l → MapAccepts k texts → ⊥
 map_accepted k input [] s l refused accepted = absurd accepted
 map_accepted k input (text ∷ []) s l refused accepted = mappable_blamed k refused.blame text refused.blamed accepted
 map_accepted k input (text ∷ more ∷ texts) s l refused accepted = absurd accepted
 
-map_decided : (k d : ℕ) (input output : List ℕ) → IsDecided (map_command k d input output)
-map_decided k d input output = record {
+map_decided : (k d : ℕ) (input output : List ℕ) (cert : Option (List ℕ)) → IsDecided (map_command k d input output cert)
+map_decided k d input output cert = record {
   one_status = map_status k input;
-  not_made = map_made k d input output;
+  not_made = map_made k d input output cert;
   not_accepted = map_accepted k input;
+}
+
+-- ---- check
+
+-- three texts that can be accepted are not refused
+acceptable_refused : (k d : ℕ) (input output certificate source mapped cert : List ℕ) (s : Status) (l : List ℕ) → 1 ≤ k
+    → AreAcceptable k d source mapped cert → CheckRefuses k d input output certificate (source ∷ mapped ∷ cert ∷ []) s l → ⊥
+acceptable_refused k d input output certificate source mapped cert s l some are (inl refused) =
+    mappable_blamed k refused.blame source refused.blamed (acceptable_maps k d source mapped cert are)
+acceptable_refused k d input output certificate source mapped cert s l some are (inr (inl refused)) =
+    refused.fault.none are.claimed are.are.of_mapped
+acceptable_refused k d input output certificate source mapped cert s l some are (inr (inr (inl refused))) =
+    cert_faulty cert are.certificate refused.number refused.kind are.are.of_cert refused.fault.first
+acceptable_refused k d input output certificate source mapped cert s l some are (inr (inr (inr refused))) =
+    acceptable_fails k d source mapped cert refused.entry refused.why some are refused.not_accepted
+
+-- texts with a verdict have no fault
+verdict_faulty : (k d : ℕ) (input output certificate source mapped cert : List ℕ) (s t : Status) (l m : List ℕ)
+    → IsVerdictNo k d source mapped cert s l
+    → IsBlamedBy k input source t m ⊎ (IsFaultyMapped k output source mapped t m ⊎ IsFaultyCert k certificate source mapped cert t m) → ⊥
+verdict_faulty k d input output certificate source mapped cert s t l m verdict (inl refused) =
+    let are = verdict.not_accepted.are in
+    mappable_blamed k refused.blame source refused.blamed (record { circuit = verdict.not_accepted.circuit; of_text = are.of_source; few = are.few })
+verdict_faulty k d input output certificate source mapped cert s t l m verdict (inr (inl refused)) =
+    refused.fault.none verdict.not_accepted.claimed verdict.not_accepted.are.of_mapped
+verdict_faulty k d input output certificate source mapped cert s t l m verdict (inr (inr refused)) =
+    cert_faulty cert verdict.not_accepted.certificate refused.number refused.kind verdict.not_accepted.are.of_cert refused.fault.first
+
+-- what a refusal of three texts is: a fault of one of them, or a verdict
+fault_or_verdict : (k d : ℕ) (input output certificate source mapped cert : List ℕ) (s : Status) (l : List ℕ)
+    → CheckRefuses k d input output certificate (source ∷ mapped ∷ cert ∷ []) s l
+    → ((s ≡ BadText) × (IsBlamedBy k input source s l ⊎ (IsFaultyMapped k output source mapped s l ⊎ IsFaultyCert k certificate source mapped cert s l)))
+    ⊎ IsVerdictNo k d source mapped cert s l
+fault_or_verdict k d input output certificate source mapped cert s l (inl refused) = inl (refused.status_is, inl refused)
+fault_or_verdict k d input output certificate source mapped cert s l (inr (inl refused)) = inl (refused.status_is, inr (inl refused))
+fault_or_verdict k d input output certificate source mapped cert s l (inr (inr (inl refused))) = inl (refused.status_is, inr (inr refused))
+fault_or_verdict k d input output certificate source mapped cert s l (inr (inr (inr refused))) = inr refused
+
+check_one : (k d : ℕ) (input output certificate source mapped cert : List ℕ) (s t : Status) (l m : List ℕ)
+    → CheckRefuses k d input output certificate (source ∷ mapped ∷ cert ∷ []) s l
+    → CheckRefuses k d input output certificate (source ∷ mapped ∷ cert ∷ []) t m → s ≡ t
+check_one k d input output certificate source mapped cert s t l m one other =
+    elim (fault_or_verdict k d input output certificate source mapped cert s l one) [
+      | inl fault ↦ elim (fault_or_verdict k d input output certificate source mapped cert t m other) [
+        | inl more ↦ fault.0 ∙ sym more.0
+        | inr verdict ↦ absurd (verdict_faulty k d input output certificate source mapped cert t s m l verdict fault.1)
+      ]
+      | inr verdict ↦ elim (fault_or_verdict k d input output certificate source mapped cert t m other) [
+        | inl more ↦ absurd (verdict_faulty k d input output certificate source mapped cert s t l m verdict more.1)
+        | inr again ↦ verdict.status_is ∙ sym again.status_is
+      ]
+    ]
+
+check_status : (k d : ℕ) (input output certificate : List ℕ) (texts : List (List ℕ)) (s t : Status) (l m : List ℕ)
+    → CheckRefuses k d input output certificate texts s l → CheckRefuses k d input output certificate texts t m → s ≡ t
+check_status k d input output certificate [] s t l m one other = absurd one
+check_status k d input output certificate (x ∷ []) s t l m one other = absurd one
+check_status k d input output certificate (x ∷ y ∷ []) s t l m one other = absurd one
+check_status k d input output certificate (x ∷ y ∷ z ∷ []) s t l m one other = check_one k d input output certificate x y z s t l m one other
+check_status k d input output certificate (x ∷ y ∷ z ∷ w ∷ texts) s t l m one other = absurd one
+
+check_made : (k d : ℕ) (input output certificate : List ℕ) (texts : List (List ℕ)) (s : Status) (l : List ℕ) (writes : List Write)
+    (lines : List (List ℕ)) → 1 ≤ k → CheckRefuses k d input output certificate texts s l → CheckMakes k d texts writes lines → ⊥
+check_made k d input output certificate [] s l writes lines some refused made = absurd refused
+check_made k d input output certificate (x ∷ []) s l writes lines some refused made = absurd refused
+check_made k d input output certificate (x ∷ y ∷ []) s l writes lines some refused made = absurd refused
+check_made k d input output certificate (x ∷ y ∷ z ∷ []) s l [] lines some refused made =
+    acceptable_refused k d input output certificate x y z s l some (accepted_acceptable k d x y z made.period made.drops made.accepted) refused
+check_made k d input output certificate (x ∷ y ∷ z ∷ []) s l (write ∷ writes) lines some refused made = absurd made
+check_made k d input output certificate (x ∷ y ∷ z ∷ w ∷ texts) s l writes lines some refused made = absurd refused
+
+check_accepted : (k d : ℕ) (input output certificate : List ℕ) (texts : List (List ℕ)) (s : Status) (l : List ℕ) → 1 ≤ k
+    → CheckRefuses k d input output certificate texts s l → CheckAccepts k d texts → ⊥
+check_accepted k d input output certificate [] s l some refused accepted = absurd refused
+check_accepted k d input output certificate (x ∷ []) s l some refused accepted = absurd refused
+check_accepted k d input output certificate (x ∷ y ∷ []) s l some refused accepted = absurd refused
+check_accepted k d input output certificate (x ∷ y ∷ z ∷ []) s l some refused accepted =
+    acceptable_refused k d input output certificate x y z s l some accepted refused
+check_accepted k d input output certificate (x ∷ y ∷ z ∷ w ∷ texts) s l some refused accepted = absurd refused
+
+check_decided : (k d : ℕ) (input output certificate : List ℕ) → 1 ≤ k → IsDecided (check_command k d input output certificate)
+check_decided k d input output certificate some = record {
+  one_status = check_status k d input output certificate;
+  not_made = λ texts s l writes lines. check_made k d input output certificate texts s l writes lines some;
+  not_accepted = λ texts s l. check_accepted k d input output certificate texts s l some;
 }
 
 -- ---- show
@@ -147,7 +228,15 @@ sim_decided input vectors output = record {
 
 -- ---- whatever is asked for
 
-pub decided : (asked : Asked) → IsDecided (command_of asked)
-decided (map_files k d input output) = map_decided k d input output
-decided (sim_files input vectors output) = sim_decided input vectors output
-decided (show_file input) = show_decided input
+-- where something is checked, tables have an input at least
+abbrev pub HasTables : Asked → Type 0
+HasTables (map_files k d input output certificate) = Unit {0}
+HasTables (check_files k d input output certificate) = 1 ≤ k
+HasTables (sim_files input vectors output) = Unit {0}
+HasTables (show_file input) = Unit {0}
+
+pub decided : (asked : Asked) → HasTables asked → IsDecided (command_of asked)
+decided (map_files k d input output certificate) tables = map_decided k d input output certificate
+decided (check_files k d input output certificate) tables = check_decided k d input output certificate tables
+decided (sim_files input vectors output) tables = sim_decided input vectors output
+decided (show_file input) tables = show_decided input

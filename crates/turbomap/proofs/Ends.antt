@@ -74,6 +74,7 @@ delivered c ready s m p status.BadWords part is done = absurd done
 delivered c ready s m p status.Unread part is done = absurd done
 delivered c ready s m p status.BadText part is done = absurd done
 delivered c ready s m p status.TooLong part is done = absurd done
+delivered c ready s m p status.NotAccepted part is done = absurd done
 
 -- a refusal was said
 refused_as : (c : Command) (s : Stored) (p : Spoken) (why : Refusal) → IsUnchanged s → HasCause c s why → Says p (line_of why)
@@ -82,6 +83,7 @@ refused_as c s p refusal.NoMemory unchanged cause says = record { unchanged = un
 refused_as c s p (refusal.Unread line) unchanged cause says = record { unchanged = unchanged; line = string_bytes line; cause = cause; says = says }
 refused_as c s p (refusal.BadText line) unchanged cause says = record { unchanged = unchanged; line = string_bytes line; cause = cause; says = says }
 refused_as c s p (refusal.TooLong line) unchanged cause says = record { unchanged = unchanged; line = string_bytes line; cause = cause; says = says }
+refused_as c s p (refusal.NotAccepted line) unchanged cause says = record { unchanged = unchanged; line = string_bytes line; cause = cause; says = says }
 
 pub refused : (c : Command) (s : Stored) (p : Spoken) (why : Refusal) (ends : Status) (line : List ℕ) → IsUnchanged s → HasCause c s why
     → ends ≡ status_of why → line ≡ line_of why → Says p line → Runs c (record { stored = s; spoken = p }) ends

@@ -1,9 +1,11 @@
 mod Causes
+mod Counts
 mod Decided
 mod Ends
 mod Lines
+mod NameLemmas
 mod Names
 mod Runs
-mod Simulations
 mod Statuses
+mod Tables
 mod Writes

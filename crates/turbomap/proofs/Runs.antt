@@ -1,11 +1,12 @@
 -- The clauses of the top call, from what its status says.
 use Rattle.std.proofs.Common.{◌≡◌, ◌⊎◌, ◌↔◌, Option, None, Some, refl}
+use Rattle.std.specs.Prelude.{IfSome}
 use Rattle.turbomap.specs.declared.status.Status.{Status}
-use Rattle.turbomap.specs.declared.status.Status.TheVariants.{Done, NoMemory, BadWords, Unread, Unwritten, BadText, TooLong}
+use Rattle.turbomap.specs.declared.status.Status.TheVariants.{Done, NoMemory, BadWords, Unread, Unwritten, BadText, TooLong, NotAccepted}
 use Rattle.turbomap.specs.Command.{Around}
 use Rattle.turbomap.specs.Run.{number, command_of, IsRun, IsToldLong, IsToldRefused, IsToldAccepted, IsFaultless}
 use Rattle.turbomap.specs.Words.{Asked}
-use Rattle.turbomap.proofs.Decided.{decided}
+use Rattle.turbomap.proofs.Decided.{HasTables, decided}
 use Rattle.turbomap.proofs.Statuses as statuses
 
 pub words : (asked : Option Asked) (a : Around) (status : Status) → IsRun asked a status → (number status ≡ 2) ↔ (asked ≡ None)
@@ -16,6 +17,7 @@ words None a Unread says = absurd says
 words None a Unwritten says = absurd says
 words None a BadText says = absurd says
 words None a TooLong says = absurd says
+words None a NotAccepted says = absurd says
 words (Some asked) a BadWords says = absurd says
 words (Some asked) a Done says = (λ is. cc, λ is. cc)
 words (Some asked) a NoMemory says = (λ is. cc, λ is. cc)
@@ -23,18 +25,19 @@ words (Some asked) a Unread says = (λ is. cc, λ is. cc)
 words (Some asked) a Unwritten says = (λ is. cc, λ is. cc)
 words (Some asked) a BadText says = (λ is. cc, λ is. cc)
 words (Some asked) a TooLong says = (λ is. cc, λ is. cc)
+words (Some asked) a NotAccepted says = (λ is. cc, λ is. cc)
 
-pub long : (asked : Option Asked) (a : Around) (status : Status) → IsRun asked a status → IsToldLong asked a.stored.before
+pub long : (asked : Option Asked) (a : Around) (status : Status) → IfSome asked HasTables → IsRun asked a status → IsToldLong asked a.stored.before
     → (number status ≡ 1) ⊎ ((number status ≡ 3) ⊎ (number status ≡ 6))
-long None a status says told = absurd told
-long (Some asked) a status says told = statuses.long (command_of asked) (decided asked) a status says told
+long None a status tables says told = absurd told
+long (Some asked) a status tables says told = statuses.long (command_of asked) (decided asked tables) a status says told
 
-pub refused : (asked : Option Asked) (a : Around) (status other : Status) → IsRun asked a status → IsToldRefused asked a.stored.before other
-    → (number status ≡ 1) ⊎ ((number status ≡ 3) ⊎ (number status ≡ number other))
-refused None a status other says told = absurd told
-refused (Some asked) a status other says told = statuses.refused (command_of asked) (decided asked) a status other says told
+pub refused : (asked : Option Asked) (a : Around) (status other : Status) → IfSome asked HasTables → IsRun asked a status
+    → IsToldRefused asked a.stored.before other → (number status ≡ 1) ⊎ ((number status ≡ 3) ⊎ (number status ≡ number other))
+refused None a status other tables says told = absurd told
+refused (Some asked) a status other tables says told = statuses.refused (command_of asked) (decided asked tables) a status other says told
 
-pub complete : (asked : Option Asked) (a : Around) (status : Status) → IsRun asked a status → IsToldAccepted asked a.stored.before → IsFaultless asked a
-    → (number status ≡ 0) ⊎ (number status ≡ 1)
-complete None a status says told calm = absurd told
-complete (Some asked) a status says told calm = statuses.complete (command_of asked) (decided asked) a status says told calm
+pub complete : (asked : Option Asked) (a : Around) (status : Status) → IfSome asked HasTables → IsRun asked a status
+    → IsToldAccepted asked a.stored.before → IsFaultless asked a → (number status ≡ 0) ⊎ (number status ≡ 1)
+complete None a status tables says told calm = absurd told
+complete (Some asked) a status tables says told calm = statuses.complete (command_of asked) (decided asked tables) a status says told calm

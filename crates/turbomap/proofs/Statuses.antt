@@ -5,7 +5,7 @@ use Rattle.std.specs.List.{AllByRecursion}
 use Rattle.tm_store.specs.Faults.{Rose}
 use Rattle.tm_store.specs.Files.{Files}
 use Rattle.turbomap.specs.declared.status.Status.{Status}
-use Rattle.turbomap.specs.declared.status.Status.TheVariants.{Done, NoMemory, BadWords, Unread, Unwritten, BadText, TooLong}
+use Rattle.turbomap.specs.declared.status.Status.TheVariants.{Done, NoMemory, BadWords, Unread, Unwritten, BadText, TooLong, NotAccepted}
 use Rattle.turbomap.specs.Command.{Input, Write, Command, Stored, Around, names_of, IsText, IsOver, AreTexts, IsSomeFileRefused, AreTextsRefused, Runs, AreToldRefused, IsSomeOver, IsToldOver, IsToldLong, AreToldAccepted, IsFaultless}
 use Rattle.turbomap.specs.Run.{number}
 
@@ -85,6 +85,7 @@ over c a Unread runs told = inr (inl refl)
 over c a Unwritten runs told = absurd (some_over a.stored.before c.inputs runs.texts told.tells runs.read told.over)
 over c a BadText runs told = absurd (some_over a.stored.before c.inputs runs.cause.texts told.tells runs.cause.read told.over)
 over c a TooLong runs told = inr (inr refl)
+over c a NotAccepted runs told = absurd (some_over a.stored.before c.inputs runs.cause.texts told.tells runs.cause.read told.over)
 
 -- ---- texts that are refused
 
@@ -114,6 +115,7 @@ refused c decided a TooLong other runs told = elim runs.cause [
   | inl file ↦ absurd (some_over a.stored.before c.inputs told.refused.texts told.tells told.refused.read (refused_over c.inputs a.stored runs.line file))
   | inr texts ↦ inr (inr (ap number (refused_twice c decided a.stored.before TooLong other runs.line texts told)))
 ]
+refused c decided a NotAccepted other runs told = inr (inr (ap number (refused_twice c decided a.stored.before NotAccepted other runs.line runs.cause told)))
 
 pub long : (c : Command) → IsDecided c → (a : Around) (status : Status) → Runs c a status → IsToldLong c a.stored.before
     → (number status ≡ 1) ⊎ ((number status ≡ 3) ⊎ (number status ≡ 6))
@@ -143,3 +145,4 @@ complete c decided a TooLong runs told calm = elim runs.cause [
   | inl file ↦ absurd (some_over a.stored.before c.inputs told.texts told.tells told.read (refused_over c.inputs a.stored runs.line file))
   | inr texts ↦ absurd (refused_accepted c decided a.stored.before TooLong runs.line texts told)
 ]
+complete c decided a NotAccepted runs told calm = absurd (refused_accepted c decided a.stored.before NotAccepted runs.line runs.cause told)

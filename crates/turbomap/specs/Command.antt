@@ -7,7 +7,7 @@ use Rattle.tm_store.specs.Faults.{Rose}
 use Rattle.tm_store.specs.Files.{Files}
 use Rattle.tm_store.specs.Said.{Appends}
 use Rattle.turbomap.specs.declared.status.Status.{Status}
-use Rattle.turbomap.specs.declared.status.Status.TheVariants.{Done, NoMemory, BadWords, Unread, Unwritten, BadText, TooLong}
+use Rattle.turbomap.specs.declared.status.Status.TheVariants.{Done, NoMemory, BadWords, Unread, Unwritten, BadText, TooLong, NotAccepted}
 use Rattle.turbomap.specs.Line.{no_memory_line, unread_line, unwritten_line, too_long_line}
 
 -- ---- a command
@@ -208,6 +208,7 @@ IsCause command stored Unread line = IsSomeFileRefused command.inputs stored Unr
 IsCause command stored TooLong line =
     IsSomeFileRefused command.inputs stored TooLong line ⊎ AreTextsRefused command stored.before TooLong line
 IsCause command stored BadText line = AreTextsRefused command stored.before BadText line
+IsCause command stored NotAccepted line = AreTextsRefused command stored.before NotAccepted line
 IsCause command stored _ line = ⊥
 
 -- no file changed, and the line was said for which there is such a cause

@@ -4,6 +4,10 @@ use Rattle.tm_sim.specs.declared.vectors.VectorKind.{VectorKind}
 use Rattle.tm_sim.specs.declared.vectors.VectorKind.TheVariants.{Byte, Width}
 use Rattle.blif_read.specs.declared.fault.BlifKind.{BlifKind}
 use Rattle.blif_read.specs.declared.fault.BlifKind.TheVariants.{BadByte, LongName, UnknownWord, LeftOut, Misplaced, BadCount, TooManyPins, RepeatedDriver, RepeatedOutput, BadRow, MixedRows, BadType, BadInit, UnknownInit, ManyClocks, Undriven, GatedClock, ClockAsData, TooManySignals, Loop, BadBinding, RepeatedModel, NoModel, UnknownFormal, RepeatedFormal, Unbound, Recursion, TooDeep, TooLarge}
+use Rattle.cert_text.specs.declared.fault.CertKind.{CertKind}
+use Rattle.cert_text.specs.declared.fault.CertKind.TheVariants.{Version, Word, Number, Ending}
+use Rattle.cert_check.specs.declared.verdict.Why.{Why}
+use Rattle.cert_check.specs.declared.verdict.Why.TheVariants.{Lag, Leaves, Uncovered, Unserved, Output, Chain, Circuit, Order, TooFew, Path, Shared, Unfinished}
 
 -- a kind is said by the name of its variant
 abbrev pub kind_name : BlifKind → List ℕ
@@ -40,3 +44,24 @@ kind_name TooLarge = codes "TooLarge"
 abbrev pub vector_kind_name : VectorKind → List ℕ
 vector_kind_name Byte = codes "Byte"
 vector_kind_name Width = codes "Width"
+
+abbrev pub cert_kind_name : CertKind → List ℕ
+cert_kind_name Version = codes "Version"
+cert_kind_name Word = codes "Word"
+cert_kind_name Number = codes "Number"
+cert_kind_name Ending = codes "Ending"
+
+-- why a certificate is not accepted is said in the same way
+abbrev pub why_name : Why → List ℕ
+why_name Lag = codes "Lag"
+why_name Leaves = codes "Leaves"
+why_name Uncovered = codes "Uncovered"
+why_name Unserved = codes "Unserved"
+why_name Output = codes "Output"
+why_name Chain = codes "Chain"
+why_name Circuit = codes "Circuit"
+why_name Order = codes "Order"
+why_name TooFew = codes "TooFew"
+why_name Path = codes "Path"
+why_name Shared = codes "Shared"
+why_name Unfinished = codes "Unfinished"

@@ -1,11 +1,11 @@
+pub mod Asking
+pub mod Check
 pub mod Command
 pub mod Kind
-pub mod Limits
 pub mod Line
 pub mod Map
-pub mod Mapped
+pub mod Names
 pub mod Prepared
-pub mod Rows
 pub mod Run
 pub mod Show
 pub mod Simulate

@@ -29,3 +29,11 @@ mapped_line period tables registers =
 -- a simulation: its number of steps
 abbrev pub steps_line : ℕ → List ℕ
 steps_line steps = codes "steps " ++ decimal steps
+
+-- three texts that are accepted: the period, and the number of drops of the certificate
+abbrev pub accepted_line : ℕ → ℕ → List ℕ
+accepted_line period drops = codes "accepted period " ++ decimal period ++ codes " drops " ++ decimal drops
+
+-- three texts that are not accepted: the entry at which a test fails, and the name of the reason
+abbrev pub not_accepted_line : ℕ → List ℕ → List ℕ
+not_accepted_line entry why = codes "not accepted: entry " ++ decimal entry ++ codes ": " ++ why

@@ -38,10 +38,10 @@ pub record AreOutputs (outputs : List Output) : Type 0 where
   pub apart : AreApart (names_of (map seen outputs))
   pub lines : AllByRecursion SaysUnwritten outputs
 
--- one file is to be written, and one line to be said
-pub record IsOne (name bytes line : List ℕ) (ready : Ready) : Type 0 where
-  pub writes : writes_of ready ≡ write_of name bytes ∷ []
-  pub lines : lines_of ready ≡ line ∷ []
+-- these files are to be written, and one line is to be said
+pub record AreReady (writes : List Write) (line : List ℕ) (ready : Ready) : Type 0 where
+  pub writes_are : writes_of ready ≡ writes
+  pub lines_are : lines_of ready ≡ line ∷ []
   pub outputs : AreOutputs ready.outputs.items
 
 -- what the command makes of the texts is ready
@@ -64,12 +64,14 @@ status_of refusal.NoMemory = status.NoMemory
 status_of (refusal.Unread line) = status.Unread
 status_of (refusal.BadText line) = status.BadText
 status_of (refusal.TooLong line) = status.TooLong
+status_of (refusal.NotAccepted line) = status.NotAccepted
 
 abbrev pub line_of : Refusal → List ℕ
 line_of refusal.NoMemory = no_memory_line
 line_of (refusal.Unread line) = string_bytes line
 line_of (refusal.BadText line) = string_bytes line
 line_of (refusal.TooLong line) = string_bytes line
+line_of (refusal.NotAccepted line) = string_bytes line
 
 -- there is a cause for the refusal
 abbrev pub HasCause : Command → Stored → Refusal → Type 0
@@ -81,6 +83,7 @@ IsFileRefusal input stored refusal.NoMemory = Unit {0}
 IsFileRefusal input stored (refusal.Unread line) = IsUnread input stored (string_bytes line)
 IsFileRefusal input stored (refusal.BadText line) = ⊥
 IsFileRefusal input stored (refusal.TooLong line) = IsTooLong input stored (string_bytes line)
+IsFileRefusal input stored (refusal.NotAccepted line) = ⊥
 
 -- why texts are refused; want of memory says nothing
 abbrev pub IsTextRefusal : Command → List (List ℕ) → Refusal → Type 0
@@ -88,6 +91,7 @@ IsTextRefusal command texts refusal.NoMemory = Unit {0}
 IsTextRefusal command texts (refusal.Unread line) = ⊥
 IsTextRefusal command texts (refusal.BadText line) = command.Refuses texts status.BadText (string_bytes line)
 IsTextRefusal command texts (refusal.TooLong line) = command.Refuses texts status.TooLong (string_bytes line)
+IsTextRefusal command texts (refusal.NotAccepted line) = command.Refuses texts status.NotAccepted (string_bytes line)
 
 -- ---- from the first write on
 

@@ -2,14 +2,15 @@
 use Rattle.std.specs.Prelude.{◌≡◌, ℕ, Option, None, Some, IsSomeAnd}
 use Rattle.tm_store.specs.Files.{Files}
 use Rattle.turbomap.specs.declared.status.Status.{Status}
-use Rattle.turbomap.specs.declared.status.Status.TheVariants.{Done, NoMemory, BadWords, Unread, Unwritten, BadText, TooLong}
+use Rattle.turbomap.specs.declared.status.Status.TheVariants.{Done, NoMemory, BadWords, Unread, Unwritten, BadText, TooLong, NotAccepted}
 use Rattle.turbomap.specs.Command as command
 use Rattle.turbomap.specs.Command.{Command, Around, IsUnchanged, Says, Runs}
 use Rattle.turbomap.specs.Line.{bad_words_line}
+use Rattle.turbomap.specs.Check.{check_command}
 use Rattle.turbomap.specs.Map.{map_command}
 use Rattle.turbomap.specs.Show.{show_command}
 use Rattle.turbomap.specs.Simulate.{sim_command}
-use Rattle.turbomap.specs.Words.{Asked, map_files, sim_files, show_file}
+use Rattle.turbomap.specs.Words.{Asked, map_files, check_files, sim_files, show_file}
 
 -- the number that stands for a status
 abbrev pub number : Status → ℕ
@@ -20,10 +21,12 @@ number Unread = 3
 number Unwritten = 4
 number BadText = 5
 number TooLong = 6
+number NotAccepted = 7
 
 -- the command that is asked for
 abbrev pub command_of : Asked → Command
-command_of (map_files k d input output) = map_command k d input output
+command_of (map_files k d input output certificate) = map_command k d input output certificate
+command_of (check_files k d input output certificate) = check_command k d input output certificate
 command_of (sim_files input vectors output) = sim_command input vectors output
 command_of (show_file input) = show_command input
 

@@ -5,7 +5,7 @@ use Rattle.tm_report.specs.Report.{IsReport}
 use Rattle.blif_read.specs.Text.{IsCircuitOf}
 use Rattle.turbomap.specs.declared.status.Status.{Status}
 use Rattle.turbomap.specs.Command.{Write, Command, input_of}
-use Rattle.turbomap.specs.Limits.{mapped_bytes, mapped_limits}
+use Rattle.tm_texts.specs.Limits.{mapped_bytes, mapped_limits}
 use Rattle.turbomap.specs.Texts.{IsFaultyText}
 
 -- the text has a circuit

@@ -1,9 +1,11 @@
-// The names of the kinds of faults, as lines say them.
+// The names of the kinds of faults, and of the reasons of a check, as lines say them.
 
 ghost use Rattle.std.specs.Prelude.{◌≡◌};
-ghost use Rattle.turbomap.specs.Kind.{kind_name, vector_kind_name};
+ghost use Rattle.turbomap.specs.Kind.{kind_name, vector_kind_name, cert_kind_name, why_name};
 
 use blif_read::BlifKind;
+use cert_check::Why;
+use cert_text::CertKind;
 use tm_sim::vectors::VectorKind;
 
 /// The name of the kind: that of its variant.
@@ -50,5 +52,37 @@ pub fn vector_kind_name(kind: VectorKind) -> &'static str
     match kind {
         VectorKind::Byte => "Byte",
         VectorKind::Width => "Width",
+    }
+}
+
+/// The name of the kind of fault of a certificate's text: that of its variant.
+pub fn cert_kind_name(kind: CertKind) -> &'static str
+    ensures { result.now ≡ cert_kind_name kind }
+{
+    match kind {
+        CertKind::Version => "Version",
+        CertKind::Word => "Word",
+        CertKind::Number => "Number",
+        CertKind::Ending => "Ending",
+    }
+}
+
+/// The name of the reason for which a certificate is not accepted: that of its variant.
+pub fn why_name(why: Why) -> &'static str
+    ensures { result.now ≡ why_name why }
+{
+    match why {
+        Why::Lag => "Lag",
+        Why::Leaves => "Leaves",
+        Why::Uncovered => "Uncovered",
+        Why::Unserved => "Unserved",
+        Why::Output => "Output",
+        Why::Chain => "Chain",
+        Why::Circuit => "Circuit",
+        Why::Order => "Order",
+        Why::TooFew => "TooFew",
+        Why::Path => "Path",
+        Why::Shared => "Shared",
+        Why::Unfinished => "Unfinished",
     }
 }

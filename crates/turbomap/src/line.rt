@@ -1,7 +1,8 @@
 // The lines said, each without its LF.
 
 ghost use Rattle.std.specs.Prelude.{◌≡◌, IfOk, string_bytes};
-ghost use Rattle.turbomap.specs.Line.{unread_line, unwritten_line, too_long_line, fault_line, mapped_line, steps_line};
+ghost use Rattle.turbomap.specs.Line.{unread_line, unwritten_line, too_long_line, fault_line, mapped_line, accepted_line};
+ghost use Rattle.turbomap.specs.Line.{not_accepted_line, steps_line};
 
 use std::alloc::{AllocError, Global};
 
@@ -56,4 +57,18 @@ pub fn steps_line(alloc: Global, steps: u32) -> Result<String, AllocError>
     ensures { IfOk result (λ line. string_bytes line ≡ steps_line steps) }
 {
     format!(in alloc; "steps {steps}")
+}
+
+/// Says the period and the number of drops of a certificate that is accepted.
+pub fn accepted_line(alloc: Global, period: u32, drops: u32) -> Result<String, AllocError>
+    ensures { IfOk result (λ line. string_bytes line ≡ accepted_line period drops) }
+{
+    format!(in alloc; "accepted period {period} drops {drops}")
+}
+
+/// Says at which entry a certificate is not accepted, and why, by the name of the reason.
+pub fn not_accepted_line(alloc: Global, entry: u32, why: &str) -> Result<String, AllocError>
+    ensures { IfOk result (λ line. string_bytes line ≡ not_accepted_line entry why.now) }
+{
+    format!(in alloc; "not accepted: entry {entry}: {why}")
 }

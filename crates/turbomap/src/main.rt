@@ -3,11 +3,14 @@
 //! it the files, the standard output and the words of the command line.
 #![tactic(auto)]
 
+mod check_files;
+#[cfg(test)]
+mod check_rows;
+#[cfg(test)]
+mod check_tests;
 mod deliver;
 mod kind;
-pub mod limits;
 mod line;
-pub mod map;
 mod map_file;
 pub mod reading;
 mod ready;
@@ -17,7 +20,6 @@ mod rows;
 mod say;
 mod show_file;
 mod sim_files;
-pub mod simulate;
 pub mod status;
 #[cfg(test)]
 mod tests;
@@ -30,6 +32,9 @@ use std::io::ErrorKind;
 use std::process::ExitCode;
 use std::{env, io};
 use tm_store::{FileStore, OutSay};
+pub use tm_texts::{
+    CheckFault, Checked, MapFault, Mapped, SimFault, Simulated, check_texts, map_text, sim_text,
+};
 
 /// The exit status where there is no memory for the words.
 const NO_MEMORY: u8 = 1;

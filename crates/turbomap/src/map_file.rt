@@ -1,21 +1,24 @@
 // `map`: reads the file, and makes ready what is to be written and said.
 
-ghost use Rattle.std.specs.Prelude.{◌≡◌, ◌≤◌, ℕ, List, [], ◌∷◌, length, IfOk, IfErr};
+ghost use Rattle.std.specs.Prelude.{◌≡◌, ◌≤◌, ℕ, List, [], ◌∷◌, length, option_map, IfOk, IfErr};
+ghost use Rattle.cert_text.specs.Certificates.{HasSpelling, certificate_of};
 ghost use Rattle.turbomap.specs.Command.{stored};
-ghost use Rattle.turbomap.specs.Limits.{source_bytes};
-ghost use Rattle.turbomap.specs.Map.{map_command};
-ghost use Rattle.turbomap.specs.Prepared.{IsMade, IsReady, IsTextRefusal, HasCause};
+ghost use Rattle.tm_texts.specs.Limits.{source_bytes};
+ghost use Rattle.turbomap.specs.Asking.{map_asked};
+ghost use Rattle.turbomap.specs.Line.{mapped_line};
+ghost use Rattle.turbomap.specs.Map.{mapped_writes};
+ghost use Rattle.turbomap.specs.Prepared.{AreReady, IsMade, IsReady, IsTextRefusal, HasCause};
 
 use crate::kind::kind_name;
-use crate::limits::SOURCE_BYTES;
 use crate::line::{fault_line, mapped_line};
-use crate::map::{MapFault, map_text};
 use crate::reading::MapWords;
-use crate::ready::{Ready, one_output};
+use crate::ready::{Ready, one_output, two_outputs};
 use crate::refusal::Refusal;
 use crate::text::read_file;
 use std::alloc::Global;
+use tm_bits::NoMemory;
 use tm_store::Store;
+use tm_texts::{MapFault, Mapped, SOURCE_BYTES, map_text};
 
 /// Reads the file and maps its text.
 pub fn prepare_map<'a, S: Store>(
@@ -24,9 +27,9 @@ pub fn prepare_map<'a, S: Store>(
     store: &mut S,
 ) -> Result<Ready<'a>, Refusal>
     ensures ready { IfOk result
-        (IsReady (map_command words.entry.k words.entry.d words.entry.input.now words.entry.output.now) (S.held store.old)) }
+        (IsReady (map_asked words.entry) (S.held store.old)) }
     ensures refused { IfErr result
-        (HasCause (map_command words.entry.k words.entry.d words.entry.input.now words.entry.output.now)
+        (HasCause (map_asked words.entry)
         (stored S.held S.read_faults S.write_faults store.old store.new)) }
     ensures same { S.held store.new ≡ S.held store.old }
     ensures write_counts { (n : List ℕ) → S.write_faults store.old n ≤ S.write_faults store.new n }
@@ -39,19 +42,37 @@ pub fn prepare_map<'a, S: Store>(
 fn make_map<'a>(alloc: Global, words: MapWords<'a>, text: &[u8]) -> Result<Ready<'a>, Refusal>
     requires short { length text.now ≤ source_bytes }
     ensures ready { IfOk result
-        (IsMade (map_command words.entry.k words.entry.d words.entry.input.now words.entry.output.now) (text.now ∷ [])) }
+        (IsMade (map_asked words.entry) (text.now ∷ [])) }
     ensures refused { IfErr result
-        (IsTextRefusal (map_command words.entry.k words.entry.d words.entry.input.now words.entry.output.now) (text.now ∷ [])) }
+        (IsTextRefusal (map_asked words.entry) (text.now ∷ [])) }
 {
     match map_text(alloc, text, words.k, words.d) {
-        Ok(mapped) => {
-            let line = mapped_line(alloc, mapped.period, mapped.tables, mapped.registers)?;
-            Ok(one_output(alloc, words.output, mapped.text, line)?)
-        }
+        Ok(mapped) => Ok(write_mapped(alloc, words, mapped)?),
         Err(MapFault::Text { line, kind }) => {
             let kind = kind_name(kind);
             Err(Refusal::BadText(fault_line(alloc, words.input, line, kind)?))
         }
         Err(MapFault::NoMemory) => Err(Refusal::NoMemory),
+    }
+}
+
+// The files to be written, and the line.
+fn write_mapped<'a>(
+    alloc: Global,
+    words: MapWords<'a>,
+    mapped: Mapped,
+) -> Result<Ready<'a>, NoMemory>
+    requires spelled { HasSpelling (certificate_of mapped.cert) }
+    ensures { IfOk result (AreReady
+        (mapped_writes words.entry.output.now (option_map (λ name. name.now) words.entry.certificate) mapped.text.items
+        (certificate_of mapped.cert)) (mapped_line mapped.cert.period mapped.tables mapped.registers)) }
+{
+    let line = mapped_line(alloc, mapped.cert.period, mapped.tables, mapped.registers)?;
+    match words.certificate {
+        None => one_output(alloc, words.output, mapped.text, line),
+        Some(certificate) => {
+            let cert = cert_text::write(alloc, &mapped.cert)?;
+            two_outputs(alloc, words.output, mapped.text, certificate, cert, line)
+        }
     }
 }

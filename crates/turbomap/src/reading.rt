@@ -1,25 +1,41 @@
 // What the words of a command line ask for.
 
-ghost use Rattle.std.specs.Prelude.{◌≤◌};
+ghost use Rattle.std.specs.Prelude.{◌≡◌, ◌≤◌, true, option_map};
 ghost use Rattle.tm_bits.specs.Limits.{most_inputs};
-ghost use Rattle.turbomap.specs.Limits.{most_lag};
+ghost use Rattle.tm_texts.specs.Limits.{most_lag};
+ghost use Rattle.turbomap.specs.Names.{are_names, files_of};
 
 /// What the words ask for.
 #[derive(Clone, Copy)]
 pub enum Reading<'a> {
     Map(MapWords<'a>),
+    Check(CheckWords<'a>),
     Sim(SimWords<'a>),
     /// `show IN`: the name of a file.
     Show(&'a str),
 }
 
-/// `map K D IN OUT`: tables of at most `k` inputs, lags of at most `d`, and the names of two files.
+/// `map K D IN OUT` and `map K D IN OUT CERT`: tables of at most `k` inputs, lags of at most `d`, and the names of two files or three.
 #[derive(Clone, Copy)]
 pub struct MapWords<'a> {
     pub k: u8,
     pub d: u8,
     pub input: &'a str,
     pub output: &'a str,
+    pub certificate: Option<&'a str>,
+    pub ghost tables: { (2 ≤ k) × (k ≤ most_inputs) },
+    pub ghost lags: { d ≤ most_lag },
+    pub ghost named: { are_names (files_of input.now output.now (option_map (λ name. name.now) certificate)) ≡ true },
+}
+
+/// `check K D IN OUT CERT`: the same numbers, and the names of three files.
+#[derive(Clone, Copy)]
+pub struct CheckWords<'a> {
+    pub k: u8,
+    pub d: u8,
+    pub input: &'a str,
+    pub output: &'a str,
+    pub certificate: &'a str,
     pub ghost tables: { (2 ≤ k) × (k ≤ most_inputs) },
     pub ghost lags: { d ≤ most_lag },
 }

@@ -15,6 +15,7 @@ pub enum Refusal {
     Unread(String),
     BadText(String),
     TooLong(String),
+    NotAccepted(String),
 }
 
 impl Refusal {
@@ -27,6 +28,7 @@ impl Refusal {
             Refusal::Unread(_) => Status::Unread,
             Refusal::BadText(_) => Status::BadText,
             Refusal::TooLong(_) => Status::TooLong,
+            Refusal::NotAccepted(_) => Status::NotAccepted,
         }
     }
 
@@ -36,8 +38,10 @@ impl Refusal {
     {
         match self {
             Refusal::NoMemory => NO_MEMORY,
-            Refusal::Unread(line) | Refusal::BadText(line) | Refusal::TooLong(line) =>
-                line.as_str(),
+            Refusal::Unread(line)
+            | Refusal::BadText(line)
+            | Refusal::TooLong(line)
+            | Refusal::NotAccepted(line) => line.as_str(),
         }
     }
 }

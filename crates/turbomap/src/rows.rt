@@ -1,5 +1,7 @@
 // The rows of the tests: texts, and what the program makes of them, worked out by hand.
 
+use crate::check_rows::{RING3, RING3_MAPPED};
+
 // What stands for the text of a file that holds none.
 pub const NOTHING: &str = "nothing";
 
@@ -135,9 +137,9 @@ pub const MAPPINGS: &[Mapping] = &[
     Mapping {
         k: "2",
         d: "8",
-        text: ".model ring3\n.inputs a b c\n.outputs g3\n.latch g3 q 0\n.names q a g1\n10 1\n01 1\n.names g1 b g2\n10 1\n01 1\n.names g2 c g3\n10 1\n01 1\n.end\n",
+        text: RING3,
         said: "period 3 tables 3 registers 1\n",
-        out: ".model ring3\n.inputs a b c\n.outputs g3\n.latch g3 q 0\n.names a q g1\n01 1\n10 1\n.names b g1 g2\n01 1\n10 1\n.names c g2 g3\n01 1\n10 1\n.end\n",
+        out: RING3_MAPPED,
     },
     // an output that is an input
     Mapping {
@@ -322,6 +324,12 @@ pub const WITHOUT_READING: &[&[&str]] = &[
     &["map", "2", "9", "a", "b"],
     &["map", "2", "0", "a", "a"],
     &["map", "2", "0", "a", ""],
+    &["map", "2", "0", "a", "b", "b"],
+    &["map", "2", "0", "a", "b", "a"],
+    &["map", "2", "0", "a", "b", ""],
+    &["check", "2", "9", "a", "b", "c"],
+    &["check", "2", "0", "a", "b", "b"],
+    &["check", "2", "0", "a", "b"],
     &["large", "7", "2", "0"],
     &["bound", "2", "0", "9", "back.blif"],
     &["sim", "t.blif", "v", "v"],

@@ -2,12 +2,11 @@
 
 ghost use Rattle.std.specs.Prelude.{◌≡◌, ◌≤◌, ℕ, List, [], ◌∷◌, length, IfOk, IfErr};
 ghost use Rattle.turbomap.specs.Command.{stored};
-ghost use Rattle.turbomap.specs.Limits.{mapped_bytes};
+ghost use Rattle.tm_texts.specs.Limits.{mapped_bytes};
 ghost use Rattle.turbomap.specs.Prepared.{IsMade, IsReady, IsTextRefusal, HasCause};
 ghost use Rattle.turbomap.specs.Show.{show_command};
 
 use crate::kind::kind_name;
-use crate::limits::MAPPED_BYTES;
 use crate::line::fault_line;
 use crate::ready::Ready;
 use crate::refusal::Refusal;
@@ -16,6 +15,7 @@ use blif_read::{BlifFault, MAPPED, read};
 use std::alloc::Global;
 use tm_report::show;
 use tm_store::Store;
+use tm_texts::MAPPED_BYTES;
 
 /// Reads the file and makes the report of its circuit.
 pub fn prepare_show<'a, S: Store>(

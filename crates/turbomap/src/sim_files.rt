@@ -2,20 +2,19 @@
 
 ghost use Rattle.std.specs.Prelude.{◌≡◌, ◌≤◌, ℕ, List, [], ◌∷◌, length, IfOk, IfErr};
 ghost use Rattle.turbomap.specs.Command.{stored};
-ghost use Rattle.turbomap.specs.Limits.{mapped_bytes, vector_bytes};
+ghost use Rattle.tm_texts.specs.Limits.{mapped_bytes, vector_bytes};
 ghost use Rattle.turbomap.specs.Prepared.{IsMade, IsReady, IsTextRefusal, HasCause};
-ghost use Rattle.turbomap.specs.Simulate.{sim_command};
+ghost use Rattle.turbomap.specs.Asking.{sim_asked};
 
 use crate::kind::{kind_name, vector_kind_name};
-use crate::limits::{MAPPED_BYTES, VECTOR_BYTES};
 use crate::line::{fault_line, steps_line, too_long_line};
 use crate::reading::SimWords;
 use crate::ready::{Ready, one_output};
 use crate::refusal::Refusal;
-use crate::simulate::{SimFault, sim_text};
 use crate::text::read_file;
 use std::alloc::Global;
 use tm_store::Store;
+use tm_texts::{MAPPED_BYTES, SimFault, VECTOR_BYTES, sim_text};
 
 /// Reads the two files and simulates their texts.
 pub fn prepare_sim<'a, S: Store>(
@@ -24,8 +23,8 @@ pub fn prepare_sim<'a, S: Store>(
     store: &mut S,
 ) -> Result<Ready<'a>, Refusal>
     ensures ready { IfOk result
-        (IsReady (sim_command words.entry.input.now words.entry.vectors.now words.entry.output.now) (S.held store.old)) }
-    ensures refused { IfErr result (HasCause (sim_command words.entry.input.now words.entry.vectors.now words.entry.output.now)
+        (IsReady (sim_asked words.entry) (S.held store.old)) }
+    ensures refused { IfErr result (HasCause (sim_asked words.entry)
         (stored S.held S.read_faults S.write_faults store.old store.new)) }
     ensures same { S.held store.new ≡ S.held store.old }
     ensures write_counts { (n : List ℕ) → S.write_faults store.old n ≤ S.write_faults store.new n }
@@ -45,9 +44,9 @@ fn make_sim<'a>(
     requires text { length text.now ≤ mapped_bytes }
     requires vectors { length vectors.now ≤ vector_bytes }
     ensures ready { IfOk result
-        (IsMade (sim_command words.entry.input.now words.entry.vectors.now words.entry.output.now) (text.now ∷ vectors.now ∷ [])) }
+        (IsMade (sim_asked words.entry) (text.now ∷ vectors.now ∷ [])) }
     ensures refused { IfErr result
-        (IsTextRefusal (sim_command words.entry.input.now words.entry.vectors.now words.entry.output.now) (text.now ∷ vectors.now ∷ [])) }
+        (IsTextRefusal (sim_asked words.entry) (text.now ∷ vectors.now ∷ [])) }
 {
     match sim_text(alloc, text, vectors) {
         Ok(simulated) => {

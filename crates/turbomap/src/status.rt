@@ -13,6 +13,7 @@ pub enum Status {
     Unwritten = 4,
     BadText = 5,
     TooLong = 6,
+    NotAccepted = 7,
 }
 
 /// The number of the status.

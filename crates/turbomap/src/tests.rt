@@ -12,16 +12,21 @@ use tm_store::{MemSay, MemStore, Slot};
 
 // How a run ended: its status, and the sayer and the store that it leaves.
 #[derive(Drop)]
-struct Ending {
-    status: u8,
-    say: MemSay,
-    store: MemStore,
+pub struct Ending {
+    pub status: u8,
+    pub say: MemSay,
+    pub store: MemStore,
 }
 
 impl Ending {
     // What `o.blif` holds, or that it holds nothing.
-    fn out(&self) -> &[u8] {
-        self.store.held("o.blif").unwrap_or(NOTHING.as_bytes())
+    pub fn out(&self) -> &[u8] {
+        self.held("o.blif")
+    }
+
+    // What a name holds, or that it holds nothing.
+    pub fn held(&self, name: &str) -> &[u8] {
+        self.store.held(name).unwrap_or(NOTHING.as_bytes())
     }
 }
 
@@ -49,7 +54,7 @@ fn store_of(
 }
 
 // The end of a run of these words with such a store and a sayer in which these calls fail.
-fn end_of(
+pub fn end_of(
     alloc: Global,
     words: &[&str],
     mut store: MemStore,

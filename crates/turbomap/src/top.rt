@@ -7,6 +7,7 @@ ghost use Rattle.turbomap.specs.Prepared.{IsReady, HasCause};
 ghost use Rattle.turbomap.specs.Run.{number, command_of, IsRun, Answers, IsToldLong, IsToldRefused, IsToldAccepted, IsFaultless};
 ghost use Rattle.turbomap.specs.Words.{seen, asked_of};
 
+use crate::check_files::prepare_check;
 use crate::deliver::deliver;
 use crate::line::BAD_WORDS;
 use crate::map_file::prepare_map;
@@ -100,6 +101,7 @@ fn prepare<'a, S: Store>(
 {
     match reading {
         Reading::Map(words) => prepare_map(alloc, words, store),
+        Reading::Check(words) => prepare_check(alloc, words, store),
         Reading::Sim(words) => prepare_sim(alloc, words, store),
         Reading::Show(input) => prepare_show(alloc, input, store),
     }

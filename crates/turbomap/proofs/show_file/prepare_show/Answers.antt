@@ -1,7 +1,7 @@
 use Rattle.std.proofs.Common.{[], ◌∷◌, inl}
 use Rattle.std.proofs.lemmas.Result.{err_from_is_err_and}
 use Rattle.turbomap.specs.Command.{input_of, stored}
-use Rattle.turbomap.specs.Limits.{mapped_bytes}
+use Rattle.tm_texts.specs.Limits.{mapped_bytes}
 use Rattle.turbomap.specs.Show.{show_command}
 use Rattle.turbomap.proofs.Causes.{file_cause, ready_of, refused_of}
 use Rattle.turbomap.proofs.show_file.prepare_show.Goals as goal

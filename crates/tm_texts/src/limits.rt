@@ -1,0 +1,33 @@
+// The limits of the commands, held to the numbers of the definitions.
+
+ghost use Rattle.std.specs.Prelude.{◌≡◌};
+ghost use Rattle.blif_read.specs.declared.TheConstants.{SOURCE, MAPPED};
+ghost use Rattle.tm_texts.specs.declared.limits.TheConstants.{MOST_D, SOURCE_BYTES, MAPPED_BYTES, VECTOR_BYTES, OUTPUT_BYTES};
+ghost use Rattle.tm_texts.specs.Limits.{most_lag, source_bytes, mapped_bytes, vector_bytes, output_bytes};
+ghost use Rattle.tm_texts.specs.Limits.{source_limits, mapped_limits};
+
+/// The greatest D: so many registers at most are moved over a gate.
+pub const MOST_D: u8 = 8;
+
+/// The most bytes of a text that is to be mapped.
+pub const SOURCE_BYTES: u64 = 16_777_216;
+
+/// The most bytes of a text that is taken for a mapped one.
+pub const MAPPED_BYTES: u64 = 268_435_456;
+
+/// The most bytes of a text of vectors.
+pub const VECTOR_BYTES: u64 = 16_777_216;
+
+/// The most bytes of the output rows of a simulation.
+pub const OUTPUT_BYTES: u64 = 268_435_456;
+
+/// The constants are the limits that the definitions name.
+pub fn limits_hold()
+    ensures most_lag { MOST_D ≡ most_lag }
+    ensures source_bytes { SOURCE_BYTES ≡ source_bytes }
+    ensures mapped_bytes { MAPPED_BYTES ≡ mapped_bytes }
+    ensures vector_bytes { VECTOR_BYTES ≡ vector_bytes }
+    ensures output_bytes { OUTPUT_BYTES ≡ output_bytes }
+    ensures source_limits { SOURCE ≡ source_limits }
+    ensures mapped_limits { MAPPED ≡ mapped_limits }
+{}

@@ -1,5 +1,0 @@
-use Rattle.turbomap.proofs.Simulations.{IsSimulating}
-use Rattle.turbomap.proofs.simulate.output_rows.Given as goal
-
-abbrev pub invariant-loop-step : goal.invariant-loop-step
-invariant-loop-step l = IsSimulating l.circuit l.rows.rows l.width l.machine l.row.items l.bits.items l.step
