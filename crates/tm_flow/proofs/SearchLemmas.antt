@@ -138,32 +138,44 @@ module _ {T : Type 0} where
     count = b.count ∙ ap (λ k. k + length b.added) a.count;
   }
 
-  -- the reads of v from `index` on have been met
+  -- the reads of v from one index on and before another have been met
   pub record IsReading (n : Shape T) (v : T) (depth : ℕ) (nodes : List T) (marks : List Marks) (waiting : List (Waiting T))
-      (nodes' : List T) (marks' : List Marks) (waiting' : List (Waiting T)) (index : ℕ) : Type 0 where
+      (nodes' : List T) (marks' : List Marks) (waiting' : List (Waiting T)) (from index : ℕ) : Type 0 where
     pub meets : Meets (λ s t. IsRead n v t s) depth nodes marks waiting nodes' marks' waiting'
-    pub met : (i : ℕ) → index ≤ i → i < n.reads v → IsMarked nodes' marks' (near (n.read v i))
+    pub met : (i : ℕ) → from ≤ i → i < index → IsMarked nodes' marks' (near (n.read v i))
 
-  pub reading_first : (n : Shape T) (v : T) (depth : ℕ) (nodes : List T) (marks : List Marks) (waiting : List (Waiting T)) (index : ℕ) → index ≡ n.reads v → IsNumbered nodes marks
-      → IsReading n v depth nodes marks waiting nodes marks waiting index
-  reading_first n v depth nodes marks waiting index e numbered = record {
+  pub reading_first : (n : Shape T) (v : T) (depth : ℕ) (nodes : List T) (marks : List Marks) (waiting : List (Waiting T)) (from : ℕ) → IsNumbered nodes marks
+      → IsReading n v depth nodes marks waiting nodes marks waiting from from
+  reading_first n v depth nodes marks waiting from numbered = record {
     meets = meets_none _ depth nodes marks waiting numbered;
     met = λ i l h. let c : ⊥ = omega arith in absurd c;
   }
 
   pub reading_on : {n : Shape T} {v : T} {depth : ℕ} {nodes nodes1 : List T} {marks marks1 : List Marks} {waiting waiting1 : List (Waiting T)}
-      (old index : ℕ) (nodes2 : List T) (marks2 : List Marks) (waiting2 : List (Waiting T)) (side : Side T) (step : Step)
-      → index + 1 ≡ old → index < n.reads v → side ≡ near (n.read v index) → step ≡ Read index
-      → IsReading n v depth nodes marks waiting nodes1 marks1 waiting1 old
+      (from index : ℕ) (nodes2 : List T) (marks2 : List Marks) (waiting2 : List (Waiting T)) (side : Side T) (step : Step)
+      → index < n.reads v → side ≡ near (n.read v index) → step ≡ Read index
+      → IsReading n v depth nodes marks waiting nodes1 marks1 waiting1 from index
       → Meets (λ s t. (s ≡ side) × (t ≡ step)) depth nodes1 marks1 waiting1 nodes2 marks2 waiting2
-      → IsMarked nodes2 marks2 side → IsReading n v depth nodes marks waiting nodes2 marks2 waiting2 index
-  reading_on {n} {v} old index nodes2 marks2 waiting2 side step next lt is_side is_step r m h = record {
+      → IsMarked nodes2 marks2 side → IsReading n v depth nodes marks waiting nodes2 marks2 waiting2 from (index + 1)
+  reading_on {n} {v} from index nodes2 marks2 waiting2 side step lt is_side is_step r m h = record {
     meets = meets_on r.meets (meets_as (λ s t e. subst (λ u. IsRead n v u s) (sym (e.1 ∙ is_step)) (lt, e.0 ∙ is_side)) m);
-    met = λ i l k. elim (cases_lt index i) [
-      | inl more ↦ let l1 : old ≤ i = omega arith in m.stays (near (n.read v i)) (r.met i l1 k)
-      | inr less ↦ let e : index ≡ i = omega arith in subst (λ j. IsMarked nodes2 marks2 (near (n.read v j))) e (subst (IsMarked nodes2 marks2) is_side h)
+    met = λ i l k. elim (cases_lt i index) [
+      | inl less ↦ m.stays (near (n.read v i)) (r.met i l less)
+      | inr more ↦ let e : index ≡ i = omega arith in subst (λ j. IsMarked nodes2 marks2 (near (n.read v j))) e (subst (IsMarked nodes2 marks2) is_side h)
     ];
   }
+
+  -- the reads of v have been met, those from the middle on first
+  pub read_all : (n : Shape T) (v : T) (depth : ℕ) (nodes1 : List T) (marks1 : List Marks) (waiting1 : List (Waiting T)) (nodes2 : List T)
+      (marks2 : List Marks) (waiting2 : List (Waiting T)) (middle : ℕ)
+      → ((i : ℕ) → middle ≤ i → i < n.reads v → IsMarked nodes1 marks1 (near (n.read v i)))
+      → Meets (λ s t. IsRead n v t s) depth nodes1 marks1 waiting1 nodes2 marks2 waiting2
+      → ((i : ℕ) → 0 ≤ i → i < middle → IsMarked nodes2 marks2 (near (n.read v i)))
+      → (i : ℕ) → i < n.reads v → IsMarked nodes2 marks2 (near (n.read v i))
+  read_all n v depth nodes1 marks1 waiting1 nodes2 marks2 waiting2 middle later m earlier i lt = elim (cases_lt i middle) [
+    | inl less ↦ earlier i (omega arith) less
+    | inr more ↦ m.stays (near (n.read v i)) (later i (omega arith) lt)
+  ]
 
   -- the far sides at the beginnings of the first `index` edges have been met
   pub record IsGoingBack (edges : List (Edge T)) (depth : ℕ) (nodes : List T) (marks : List Marks) (waiting : List (Waiting T))

@@ -3,7 +3,7 @@
 // a number and marks for each node that it has met. Of the way that it came it keeps only the one that
 // it stands on. The nodes keep their numbers from one search of a root to the next.
 
-ghost use Rattle.std.specs.Prelude.{◌≡◌, ◌⊎◌, ℕ, ◌<◌, IsTrue, true, false, List, [], length, map, IfOk, OnOk};
+ghost use Rattle.std.specs.Prelude.{◌≡◌, ◌⊎◌, ℕ, ◌<◌, ◌≤◌, IsTrue, true, false, List, [], length, map, IfOk, OnOk};
 ghost use Rattle.tm_flow.specs.Flows.{Leads, AreWalks, InFlow, all_edges_to};
 ghost use Rattle.tm_flow.specs.declared.flow.Edge.{Edge};
 ghost use Rattle.tm_flow.specs.Lists.{Each, At, lists_in};
@@ -361,7 +361,7 @@ fn meet_next<N: LazyNet>(
     )
 }
 
-/// What is met last is taken first: the reads in their order, and then the way back.
+/// What is met last is taken first: the reads, and then the way back.
 fn meet_from_far<N: LazyNet>(
     net: &N,
     search: &mut Search<N::Node>,
@@ -387,6 +387,7 @@ fn meet_from_far<N: LazyNet>(
     Ok(())
 }
 
+/// Of what is read the lowest is met last and so taken first: ends are low, and a walk to a near one is short.
 fn meet_reads<N: LazyNet>(
     net: &N,
     search: &mut Search<N::Node>,
@@ -400,7 +401,51 @@ fn meet_reads<N: LazyNet>(
         → IsMarked search.new.met.nodes.keys search.new.met.marks.items
         (near ((N.shape net.now).read node i))) }
 {
-    for index in (0..net.reads(node)).rev() {
+    let count = net.reads(node);
+    let middle = up_to_lowest(net, node, count);
+    meet_range(net, search, node, depth, middle, count)?;
+    meet_range(net, search, node, depth, 0, middle)?;
+    Ok(())
+}
+
+/// How many reads there are up to the lowest of them, the one of the least rank.
+fn up_to_lowest<N: LazyNet>(net: &N, node: N::Node, count: u32) -> u32
+    requires { count ≡ (N.shape net.now).reads node }
+    ensures { result ≤ count }
+{
+    if count < 2 {
+        return count;
+    }
+    let mut up_to = 0;
+    let mut lowest = 0;
+    for index in 0..count {
+        let rank = net.rank(net.read(node, index));
+        if up_to == 0 || rank < lowest {
+            lowest = rank;
+            up_to = index + 1;
+        }
+    }
+    up_to
+}
+
+/// Meets what is read at the indices of a range.
+fn meet_range<N: LazyNet>(
+    net: &N,
+    search: &mut Search<N::Node>,
+    node: N::Node,
+    depth: usize,
+    from: u32,
+    to: u32,
+) -> Result<(), NoMemory>
+    requires numbered { IsNumbered search.old.met.nodes.keys search.old.met.marks.items }
+    requires within { to ≤ (N.shape net.now).reads node }
+    ensures meets { OnOk result (Grows (λ s t. IsRead (N.shape net.now) node t s) depth
+        search.old search.new) }
+    ensures met { OnOk result ((i : ℕ) → from ≤ i → i < to
+        → IsMarked search.new.met.nodes.keys search.new.met.marks.items
+        (near ((N.shape net.now).read node i))) }
+{
+    for index in from..to {
         let side = Side::near(net.read(node, index));
         meet_at::<N>(search, side, Step::Read(index), depth)?;
     }

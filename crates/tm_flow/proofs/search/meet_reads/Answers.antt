@@ -1,14 +1,13 @@
-use Rattle.std.proofs.Common.{◌-◌, ap, ◌∙◌, refl, arith}
-use Rattle.tm_flow.specs.Searches.{near}
-use Rattle.tm_flow.proofs.SearchLemmas.{reading_first, reading_on}
+use Rattle.std.proofs.Common.{subst, sym, ◌<◌}
+use Rattle.tm_flow.proofs.SearchLemmas.{meets_on, read_all}
 use Rattle.tm_flow.proofs.search.meet_reads.Goals as goal
 
-pub loop-index-preserved : goal.loop-index-preserved
-loop-index-preserved g c =
-    reading_on c.loop-index.index (c.loop-index.index - 1) c.meet_at.new.search.met.nodes.keys c.meet_at.new.search.met.marks.items c.meet_at.new.search.pending.items c.near-side.result _
-    (omega arith) (omega arith) (c.near-side.ensures ∙ ap near c.read.ensures) refl c.loop-index.invariant c.in_ok-meet_at.ensures.meets c.in_ok-meet_at.ensures.met
+pub returns-clause-meets : goal.returns-clause-meets
+returns-clause-meets g c = meets_on c.in_ok-meet_range.ensures.meets c.in_ok-meet_range-2.ensures.meets
 
-pub loop-index-init : goal.loop-index-init
-loop-index-init g c =
-    reading_first (g.N.LazyNet.shape c.args.net.now) c.args.node c.args.depth c.args.search.now.met.nodes.keys c.args.search.now.met.marks.items c.args.search.now.pending.items
-    c.reads-index.result c.reads-index.ensures c.requires
+pub returns-clause-met : goal.returns-clause-met
+returns-clause-met g c =
+    read_all (g.N.LazyNet.shape c.args.net.now) c.args.node c.args.depth
+    c.meet_range.new.search.met.nodes.keys c.meet_range.new.search.met.marks.items c.meet_range.new.search.pending.items
+    c.meet_range-2.new.search.met.nodes.keys c.meet_range-2.new.search.met.marks.items c.meet_range-2.new.search.pending.items c.up_to_lowest-middle.result
+    (λ i l h. c.in_ok-meet_range.ensures.met i l (subst (λ count. i < count) (sym c.reads-count.ensures) h)) c.in_ok-meet_range-2.ensures.meets c.in_ok-meet_range-2.ensures.met
