@@ -1,0 +1,15 @@
+pub mod GoLemmas
+pub mod StepLemmas
+pub mod ChainLemmas
+pub mod TrailLemmas
+pub mod SlotLemmas
+pub mod AdmitLemmas
+pub mod FateLemmas
+pub mod TakeLemmas
+pub mod ReaderLemmas
+pub mod GoingLemmas
+pub mod TurnLemmas
+pub mod AbsorbLemmas
+pub mod NextLemmas
+pub mod StartLemmas
+pub mod RenewLemmas
