@@ -1,0 +1,9 @@
+pub mod AmountLemmas
+pub mod MapLemmas
+pub mod WalkLemmas
+pub mod MappingLemmas
+pub mod PeriodLemmas
+pub mod LabelLemmas
+pub mod ReplayLemmas
+pub mod LagLemmas
+pub mod AnswerLemmas

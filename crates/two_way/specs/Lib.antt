@@ -1,0 +1,9 @@
+pub mod Nodes
+pub mod Walks
+pub mod Mappings
+pub mod Chains
+pub mod Labels
+pub mod Served
+pub mod Replays
+pub mod Least
+pub mod Amounts
