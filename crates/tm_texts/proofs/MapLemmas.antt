@@ -1,31 +1,21 @@
 -- From a mapped subject circuit to a mapped text.
 use Rattle.std.proofs.Common.{◌≡◌, ℕ, suc, List, subst, sym, ap, ◌∙◌}
-use Rattle.tm_circuit.specs.Plain.{Plain, gate_count, latch_count}
+use Rattle.tm_circuit.specs.Plain.{Plain}
 use Rattle.tm_circuit.proofs.Sameness.{sound_same_through}
-use Rattle.blif_read.specs.Text.{IsCircuitOf}
-use Rattle.blif_write.specs.Text.{text_of}
 use Rattle.tm_replay.specs.Replays.{Drop, Refutes}
 use Rattle.tm_labels.specs.Settled.{Settling}
 use Rattle.tm_search.specs.Least as below
 use Rattle.tm_search.proofs.LeastLemmas.{refutes_from}
+use Rattle.tm_mapped.specs.Mapped.{CoverRule}
 use Rattle.cert_text.specs.Certificates.{Certificate}
 use Rattle.cert_check.specs.Accepted.{ShowLeast}
-use Rattle.tm_texts.specs.Limits.{mapped_limits}
 use Rattle.tm_texts.specs.Maps.{IsLeastMapped, IsCertified, Maps}
-use Rattle.tm_texts.specs.Mapped.{IsMappedCircuit}
+use Rattle.tm_texts.specs.Mapped.{IsMappedCircuit, IsSpelled}
 use Rattle.tm_texts.specs.Sources.{IsSubjectOf}
 
--- the bytes are the text of a circuit, and of no other
-pub record IsSpelled (bytes : List ℕ) (circuit : Plain) (tables registers : ℕ) : Type 0 where
-  pub spelled : bytes ≡ text_of circuit
-  pub of_bytes : IsCircuitOf mapped_limits bytes circuit
-  pub only : (c : Plain) → IsCircuitOf mapped_limits bytes c → c ≡ circuit
-  pub tables_are : gate_count circuit.drives ≡ tables
-  pub registers_are : latch_count circuit.drives ≡ registers
-
-pub maps_of : (k d : ℕ) (text bytes : List ℕ) (subject circuit : Plain) (cert : Certificate) (tables registers : ℕ) → IsSubjectOf k text subject
-    → IsMappedCircuit k d subject circuit cert → IsSpelled bytes circuit tables registers → Maps k d text bytes cert tables registers
-maps_of k d text bytes subject circuit cert tables registers split made written = record {
+pub maps_of : (Covers : CoverRule) (k d : ℕ) (text bytes : List ℕ) (subject circuit : Plain) (cert : Certificate) (tables registers : ℕ) → IsSubjectOf k text subject
+    → IsMappedCircuit Covers k d subject circuit cert → IsSpelled bytes circuit tables registers → Maps Covers k d text bytes cert tables registers
+maps_of Covers k d text bytes subject circuit cert tables registers split made written = record {
   source = split.source;
   of_text = split.of_text;
   source_sound = split.source_sound;
@@ -40,7 +30,7 @@ maps_of k d text bytes subject circuit cert tables registers split made written 
   period_is = made.period_is;
   tables_are = written.tables_are;
   registers_are = written.registers_are;
-  least = subst (λ (c : Plain). IsLeastMapped k d c cert.tables cert.period circuit) split.spelled made.least;
+  least = subst (λ (c : Plain). IsLeastMapped Covers k d c cert.tables cert.period circuit) split.spelled made.least;
   certified = subst (λ (c : Plain). IsCertified k d c circuit cert) split.spelled made.certified;
 }
 

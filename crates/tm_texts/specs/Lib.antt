@@ -2,6 +2,8 @@ pub mod Limits
 pub mod Sources
 pub mod Maps
 pub mod Mapped
+pub mod Bounds
+pub mod Large
 pub mod Simulates
 pub mod Rows
 pub mod Checks

@@ -22,6 +22,17 @@ output_bytes = 268435456
 abbrev pub most_lag : ℕ
 most_lag = 8
 
+-- the greatest B: so many registers at most are moved backward over a gate, where a bound lets them
+abbrev pub most_back : ℕ
+most_back = 8
+
+-- the numbers of samples
+abbrev pub least_sample : ℕ
+least_sample = 8
+
+abbrev pub most_sample : ℕ
+most_sample = 20000
+
 -- what a text that is to be mapped may have
 abbrev pub source_limits : Limits
 source_limits = record { signals = 100000; name = 255 }

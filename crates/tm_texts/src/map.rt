@@ -6,18 +6,20 @@ ghost use Rattle.tm_circuit.specs.Plain.{widest};
 ghost use Rattle.tm_parts.specs.Fits.{FitsMapping};
 ghost use Rattle.tm_replay.specs.Replays.{drop_of};
 ghost use Rattle.tm_unroll.specs.Mappings.{tables_of};
+ghost use Rattle.tm_mapped.specs.Mapped.{BySingleRows};
 ghost use Rattle.tm_search.specs.Least.{Refutes};
 ghost use Rattle.cert_text.specs.Certificates.{certificate_of};
 ghost use Rattle.cert_check.specs.Accepted.{ShowLeast};
 ghost use Rattle.tm_texts.specs.Limits.{most_lag, source_bytes};
 ghost use Rattle.tm_texts.specs.Maps.{Maps, IsLeastMapping};
-ghost use Rattle.tm_texts.specs.Mapped.{IsMappedCircuit};
+ghost use Rattle.tm_texts.specs.Mapped.{IsMappedCircuit, IsSpelled};
 ghost use Rattle.tm_texts.specs.Sources.{IsMapFault};
 
 use crate::source::{MapFault, subject_of_text};
 use cert_check::laws as check_laws;
 use cert_text::Cert;
 use std::alloc::Global;
+use tm_absorb::absorb;
 use tm_bits::NoMemory;
 use tm_circuit::{Circuit, laws as circuit_laws};
 use tm_cover::choose;
@@ -28,7 +30,7 @@ use tm_replay::Lowering;
 use tm_search::{laws as search_laws, least_for_outputs};
 use tm_shorten::shorten;
 use tm_twins::{joined, laws as twin_laws};
-use tm_unroll::Mapping;
+use tm_unroll::{Mapping, laws as unroll_laws};
 
 /// A mapped text, with its certificate, in which its mapping and its period stand, and the numbers of tables and registers.
 #[derive(Drop)]
@@ -41,9 +43,9 @@ pub struct Mapped {
 
 /// A mapped circuit, with its certificate.
 #[derive(Drop)]
-struct MappedCircuit {
-    circuit: Circuit,
-    cert: Cert,
+pub(crate) struct MappedCircuit {
+    pub circuit: Circuit,
+    pub cert: Cert,
 }
 
 /// A mapping of the least period, that period, and drops that show that there is no smaller one.
@@ -55,17 +57,26 @@ struct LeastMapping {
 }
 
 /// Maps the circuit of a text to tables of at most `k` inputs, over each of which at most `d` registers move forward: wide gates are
-/// split, latches that are always equal count as one, and the period is the least that a lawful mapping has.
+/// split, latches that are always equal count as one, and the period is the least that a lawful mapping has. Tables that fit into all
+/// their readers are absorbed.
 pub fn map_text(alloc: Global, text: &[u8], k: u8, d: u8) -> Result<Mapped, MapFault>
     requires tables { (2 ≤ k) × (k ≤ most_inputs) }
     requires lags { d ≤ most_lag }
     requires short { length text.now ≤ source_bytes }
     ensures maps { IfOk result (λ mapped.
-        Maps k d text.now mapped.text.items (certificate_of mapped.cert) mapped.tables mapped.registers) }
+        Maps BySingleRows k d text.now mapped.text.items (certificate_of mapped.cert) mapped.tables mapped.registers) }
     ensures fault { IfErr result (IsMapFault k text.now) }
 {
     let subject = subject_of_text(alloc, text, k)?;
     let mapped = map_subject(alloc, &subject, k, d)?;
+    Ok(write_mapped(alloc, mapped)?)
+}
+
+/// The text of a mapped circuit, with its certificate and its numbers.
+pub(crate) fn write_mapped(alloc: Global, mapped: MappedCircuit) -> Result<Mapped, NoMemory>
+    ensures spelled { IfOk result (λ written. IsSpelled written.text.items mapped.circuit written.tables written.registers) }
+    ensures cert { IfOk result (λ written. written.cert ≡ mapped.cert) }
+{
     Ok(Mapped {
         text: blif_write::text(alloc, &mapped.circuit)?,
         tables: mapped.circuit.gates(),
@@ -74,13 +85,18 @@ pub fn map_text(alloc: Global, text: &[u8], k: u8, d: u8) -> Result<Mapped, MapF
     })
 }
 
-// The subject circuit mapped. What is mapped is the joined circuit, in which equal latches are one.
-fn map_subject(alloc: Global, subject: &Circuit, k: u8, d: u8) -> Result<MappedCircuit, NoMemory>
+/// The subject circuit mapped. What is mapped is the joined circuit, in which equal latches are one.
+pub(crate) fn map_subject(
+    alloc: Global,
+    subject: &Circuit,
+    k: u8,
+    d: u8,
+) -> Result<MappedCircuit, NoMemory>
     requires tables { (2 ≤ k) × (k ≤ most_inputs) }
     requires lags { d ≤ most_lag }
     requires narrow { widest subject.now.drives ≤ k }
     requires fits { FitsMapping subject.now }
-    ensures { IfOk result (λ mapped. IsMappedCircuit k d subject.now mapped.circuit (certificate_of mapped.cert)) }
+    ensures { IfOk result (λ mapped. IsMappedCircuit BySingleRows k d subject.now mapped.circuit (certificate_of mapped.cert)) }
 {
     circuit_laws::equivalence();
     twin_laws::joined_fits();
@@ -106,7 +122,8 @@ fn map_subject(alloc: Global, subject: &Circuit, k: u8, d: u8) -> Result<MappedC
     })
 }
 
-// A mapping of the least period that any lawful mapping of the circuit has, and what shows that it is the least.
+// A mapping of the least period that any lawful mapping of the circuit has, and what shows that it is the least. Absorption leaves the
+// period as it is, since there is no smaller one.
 fn least_mapping(alloc: Global, circuit: &Circuit, k: u8, d: u8) -> Result<LeastMapping, NoMemory>
     requires tables { (2 ≤ k) × (k ≤ most_inputs) }
     requires lags { d ≤ most_lag }
@@ -116,10 +133,12 @@ fn least_mapping(alloc: Global, circuit: &Circuit, k: u8, d: u8) -> Result<Least
     ensures shown { IfOk result (λ least. ShowLeast least.period circuit.now k d (map drop_of least.drops.items)) }
 {
     search_laws::least_is_period();
+    unroll_laws::one_period();
     // The circuit in hand is known to be sound.
     let _ = circuit.signals();
     let least = least_for_outputs(alloc, 0, circuit, k, d)?;
-    let mapping = choose(alloc, circuit, k, d, &least.at)?;
+    let chosen = choose(alloc, circuit, k, d, &least.at)?;
+    let mapping = absorb(alloc, circuit, k, d, &chosen)?;
     Ok(LeastMapping {
         mapping,
         period: least.period,

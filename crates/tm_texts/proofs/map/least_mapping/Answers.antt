@@ -1,4 +1,5 @@
 use Rattle.tm_unroll.specs.Mappings.{tables_of}
+use Rattle.tm_texts.proofs.AbsorbedLemmas.{kept_period}
 use Rattle.tm_texts.proofs.map.least_mapping.Goals as goal
 
 pub returns-clause-least : goal.returns-clause-least
@@ -8,9 +9,16 @@ returns-clause-least c =
     let law = c.least_is_period.ensures in
     let sound = c.signals.ensures.sound in
     let is = c.in_ok-least.ensures.least in
-    let chosen = c.in_ok-mapping.ensures in
+    let chosen = tables_of c.in_ok-chosen.chosen in
+    let absorbed = c.in_ok-mapping.ensures in
+    let none = (law.least circuit c.args.k c.args.d least sound is).none_smaller in
+    let (period, period_is) = c.one_period.ensures.some 0 (λ _. 0) circuit c.args.k c.args.d (tables_of c.in_ok-mapping.mapping) sound absorbed.lawful in
     record {
-      lawful = chosen.lawful;
-      period_is = law.period circuit c.args.k c.args.d least (tables_of c.in_ok-mapping.mapping) sound is chosen.chosen;
-      least = (law.least circuit c.args.k c.args.d least sound is).none_smaller;
+      lawful = absorbed.lawful;
+      period_is =
+          kept_period chosen (tables_of c.in_ok-mapping.mapping) least.period period
+          (law.period circuit c.args.k c.args.d least chosen sound is c.in_ok-chosen.ensures.chosen) period_is absorbed.within
+          (none (tables_of c.in_ok-mapping.mapping) period absorbed.lawful period_is);
+      least = none;
+      absorbed = absorbed.absorbed.none;
     }
