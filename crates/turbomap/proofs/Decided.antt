@@ -4,19 +4,22 @@ use Rattle.tm_circuit.specs.Plain.{Plain, input_count}
 use Rattle.tm_sim.specs.Vectors.{vectors_of}
 use Rattle.blif_read.proofs.OneCircuit.{excluded}
 use Rattle.blif_read.proofs.SomeCircuit.{same_circuit}
+use Rattle.tm_mapped.specs.Mapped.{CoverRule}
 use Rattle.tm_texts.specs.Limits.{output_bytes, mapped_limits}
 use Rattle.tm_texts.specs.Checks.{AreAcceptable}
 use Rattle.tm_texts.specs.Simulates.{HasRows, bytes_of}
 use Rattle.tm_texts.proofs.Excluded.{mappable_blamed, cert_faulty, acceptable_maps, acceptable_fails, accepted_acceptable}
 use Rattle.turbomap.specs.declared.status.Status.{Status}
 use Rattle.turbomap.specs.declared.status.Status.TheVariants.{BadText}
+use Rattle.turbomap.specs.Bound.{BoundMakes, bound_command}
 use Rattle.turbomap.specs.Check.{IsFaultyMapped, IsFaultyCert, IsVerdictNo, CheckRefuses, CheckAccepts, CheckMakes, check_command}
 use Rattle.turbomap.specs.Command.{Write}
-use Rattle.turbomap.specs.Map.{IsBlamedBy, MapRefuses, MapAccepts, MapMakes, map_command}
+use Rattle.turbomap.specs.Large.{large_command}
+use Rattle.turbomap.specs.Map.{IsBlamedBy, MapRefuses, MapAccepts, MapMakes, rule_of, map_command}
 use Rattle.turbomap.specs.Run.{command_of}
 use Rattle.turbomap.specs.Show.{ShowRefuses, ShowAccepts, ShowMakes, show_command}
 use Rattle.turbomap.specs.Simulate.{AreFaultyVectors, SimRefuses, SimAccepts, SimMakes, sim_command}
-use Rattle.turbomap.specs.Words.{Asked, map_files, check_files, sim_files, show_file}
+use Rattle.turbomap.specs.Words.{Asked, map_files, check_files, sim_files, show_file, large_sample, bound_file}
 use Rattle.turbomap.proofs.Statuses.{IsDecided}
 
 -- ---- map
@@ -26,22 +29,39 @@ map_status k input [] s t l m one other = absurd one
 map_status k input (text ∷ []) s t l m one other = one.status_is ∙ sym other.status_is
 map_status k input (text ∷ more ∷ texts) s t l m one other = absurd one
 
-map_made : (k d : ℕ) (input output : List ℕ) (cert : Option (List ℕ)) (texts : List (List ℕ)) (s : Status) (l : List ℕ) (writes : List Write)
-    (lines : List (List ℕ)) → MapRefuses k input texts s l → MapMakes k d output cert texts writes lines → ⊥
-map_made k d input output cert [] s l writes lines refused made = absurd made
-map_made k d input output cert (text ∷ []) s l writes lines refused made =
+map_made : (Covers : CoverRule) (k d : ℕ) (input output : List ℕ) (cert : Option (List ℕ)) (texts : List (List ℕ)) (s : Status) (l : List ℕ) (writes : List Write)
+    (lines : List (List ℕ)) → MapRefuses k input texts s l → MapMakes Covers k d output cert texts writes lines → ⊥
+map_made Covers k d input output cert [] s l writes lines refused made = absurd made
+map_made Covers k d input output cert (text ∷ []) s l writes lines refused made =
     mappable_blamed k refused.blame text refused.blamed (record { circuit = made.maps.source; of_text = made.maps.of_text; few = made.maps.few })
-map_made k d input output cert (text ∷ more ∷ texts) s l writes lines refused made = absurd made
+map_made Covers k d input output cert (text ∷ more ∷ texts) s l writes lines refused made = absurd made
 
 map_accepted : (k : ℕ) (input : List ℕ) (texts : List (List ℕ)) (s : Status) (l : List ℕ) → MapRefuses k input texts s l → MapAccepts k texts → ⊥
 map_accepted k input [] s l refused accepted = absurd accepted
 map_accepted k input (text ∷ []) s l refused accepted = mappable_blamed k refused.blame text refused.blamed accepted
 map_accepted k input (text ∷ more ∷ texts) s l refused accepted = absurd accepted
 
-map_decided : (k d : ℕ) (input output : List ℕ) (cert : Option (List ℕ)) → IsDecided (map_command k d input output cert)
-map_decided k d input output cert = record {
+map_decided : (Covers : CoverRule) (k d : ℕ) (input output : List ℕ) (cert : Option (List ℕ)) → IsDecided (map_command Covers k d input output cert)
+map_decided Covers k d input output cert = record {
   one_status = map_status k input;
-  not_made = map_made k d input output cert;
+  not_made = map_made Covers k d input output cert;
+  not_accepted = map_accepted k input;
+}
+
+-- ---- bound
+
+bound_made : (k d b : ℕ) (input : List ℕ) (texts : List (List ℕ)) (s : Status) (l : List ℕ) (writes : List Write) (lines : List (List ℕ))
+    → MapRefuses k input texts s l → BoundMakes k d b texts writes lines → ⊥
+bound_made k d b input [] s l writes lines refused made = absurd refused
+bound_made k d b input (text ∷ []) s l [] lines refused made =
+    mappable_blamed k refused.blame text refused.blamed (record { circuit = made.bound.source; of_text = made.bound.of_text; few = made.bound.few })
+bound_made k d b input (text ∷ []) s l (write ∷ writes) lines refused made = absurd made
+bound_made k d b input (text ∷ more ∷ texts) s l writes lines refused made = absurd refused
+
+bound_decided : (k d b : ℕ) (input : List ℕ) → IsDecided (bound_command k d b input)
+bound_decided k d b input = record {
+  one_status = map_status k input;
+  not_made = bound_made k d b input;
   not_accepted = map_accepted k input;
 }
 
@@ -226,17 +246,30 @@ sim_decided input vectors output = record {
   not_accepted = sim_accepted input vectors output;
 }
 
+-- ---- large
+
+large_decided : (number k d : ℕ) → IsDecided (large_command number k d)
+large_decided number k d = record {
+  one_status = λ texts s t l m one other. absurd one;
+  not_made = λ texts s l writes lines refused made. refused;
+  not_accepted = λ texts s l refused accepted. refused;
+}
+
 -- ---- whatever is asked for
 
 -- where something is checked, tables have an input at least
 abbrev pub HasTables : Asked → Type 0
-HasTables (map_files k d input output certificate) = Unit {0}
+HasTables (map_files rows k d input output certificate) = Unit {0}
 HasTables (check_files k d input output certificate) = 1 ≤ k
 HasTables (sim_files input vectors output) = Unit {0}
 HasTables (show_file input) = Unit {0}
+HasTables (large_sample number k d) = Unit {0}
+HasTables (bound_file k d b input) = Unit {0}
 
 pub decided : (asked : Asked) → HasTables asked → IsDecided (command_of asked)
-decided (map_files k d input output certificate) tables = map_decided k d input output certificate
+decided (map_files rows k d input output certificate) tables = map_decided (rule_of rows) k d input output certificate
 decided (check_files k d input output certificate) tables = check_decided k d input output certificate tables
 decided (sim_files input vectors output) tables = sim_decided input vectors output
 decided (show_file input) tables = show_decided input
+decided (large_sample number k d) tables = large_decided number k d
+decided (bound_file k d b input) tables = bound_decided k d b input

@@ -5,6 +5,7 @@ mod Ends
 mod Lines
 mod NameLemmas
 mod Names
+mod Numbers
 mod Runs
 mod Statuses
 mod Tables

@@ -6,7 +6,7 @@ use Rattle.tm_store.specs.Faults.{Rose}
 use Rattle.tm_store.specs.Files.{Files}
 use Rattle.turbomap.specs.declared.status.Status.{Status}
 use Rattle.turbomap.specs.declared.status.Status.TheVariants.{Done, NoMemory, BadWords, Unread, Unwritten, BadText, TooLong, NotAccepted}
-use Rattle.turbomap.specs.Command.{Input, Write, Command, Stored, Around, names_of, IsText, IsOver, AreTexts, IsSomeFileRefused, AreTextsRefused, Runs, AreToldRefused, IsSomeOver, IsToldOver, IsToldLong, AreToldAccepted, IsFaultless}
+use Rattle.turbomap.specs.Command.{Input, Write, Command, Stored, Around, names_of, IsText, IsOver, AreTexts, IsSomeFileRefused, AreTextsRefused, Runs, AreTold, AreToldRefused, IsSomeOver, IsToldOver, IsToldLong, AreToldAccepted, IsFaultless}
 use Rattle.turbomap.specs.Run.{number}
 
 -- Texts are refused with one status at most, and neither worked on nor accepted where they are.
@@ -36,6 +36,12 @@ same_texts told (input ∷ inputs) (x ∷ xs) (y ∷ ys) tells one other =
     let rest = same_texts told inputs xs ys tells one.1 other.1 in
     cc (first, rest)
 
+told_texts : (told : Option Files) (inputs : List Input) (a b : List (List ℕ)) → AreTold told inputs → AreTexts told inputs a → AreTexts told inputs b → a ≡ b
+told_texts told [] [] [] tells one other = refl
+told_texts told [] [] (y ∷ ys) tells one other = absurd other
+told_texts told [] (x ∷ xs) b tells one other = absurd one
+told_texts told (input ∷ inputs) a b tells one other = same_texts told (input ∷ inputs) a b tells one other
+
 text_over : (told : Option Files) (input : Input) (text : List ℕ) → IsSome told → IsText told input text → IsOver told input → ⊥
 text_over None input text tells is over = none_tells tells
 text_over (Some files) input text tells is over =
@@ -46,6 +52,10 @@ some_over told [] texts tells are over = absurd over
 some_over told (input ∷ inputs) [] tells are over = absurd are
 some_over told (input ∷ inputs) (text ∷ texts) tells are (inl over) = text_over told input text tells are.0 over
 some_over told (input ∷ inputs) (text ∷ texts) tells are (inr over) = some_over told inputs texts tells are.1 over
+
+told_over : (told : Option Files) (inputs : List Input) (texts : List (List ℕ)) → AreTold told inputs → AreTexts told inputs texts → IsSomeOver told inputs → ⊥
+told_over told [] texts tells are over = over
+told_over told (input ∷ inputs) texts tells are over = some_over told (input ∷ inputs) texts tells are over
 
 -- ---- causes
 
@@ -127,7 +137,7 @@ long c decided a status runs (inr told) = refused c decided a status TooLong run
 refused_accepted : (c : Command) → IsDecided c → (told : Option Files) (status : Status) (line : List ℕ) → AreTextsRefused c told status line
     → AreToldAccepted c told → ⊥
 refused_accepted c decided told status line refused accepted =
-    let same = same_texts told c.inputs refused.texts accepted.texts accepted.tells refused.read accepted.read in
+    let same = told_texts told c.inputs refused.texts accepted.texts accepted.tells refused.read accepted.read in
     decided.not_accepted accepted.texts status line (subst (λ (ts : List (List ℕ)). c.Refuses ts status line) same refused.refused) accepted.accepted
 
 pub complete : (c : Command) → IsDecided c → (a : Around) (status : Status) → Runs c a status → AreToldAccepted c a.stored.before → IsFaultless c a
@@ -142,7 +152,7 @@ complete c decided a Unwritten runs told calm = elim runs.ends [
 ]
 complete c decided a BadText runs told calm = absurd (refused_accepted c decided a.stored.before BadText runs.line runs.cause told)
 complete c decided a TooLong runs told calm = elim runs.cause [
-  | inl file ↦ absurd (some_over a.stored.before c.inputs told.texts told.tells told.read (refused_over c.inputs a.stored runs.line file))
+  | inl file ↦ absurd (told_over a.stored.before c.inputs told.texts told.tells told.read (refused_over c.inputs a.stored runs.line file))
   | inr texts ↦ absurd (refused_accepted c decided a.stored.before TooLong runs.line texts told)
 ]
 complete c decided a NotAccepted runs told calm = absurd (refused_accepted c decided a.stored.before NotAccepted runs.line runs.cause told)

@@ -3,9 +3,11 @@ use Rattle.std.proofs.Common.{◌≡◌, ◌≤◌, ◌+◌, ◌-◌, ◌&&◌, 
 use Rattle.std.specs.Prelude.{IfSome, option_and_then}
 use Rattle.std.proofs.lemmas.Bool.{leb-true}
 use Rattle.tm_bits.specs.Limits.{most_inputs}
-use Rattle.tm_texts.specs.Limits.{most_lag}
+use Rattle.tm_texts.specs.Limits.{most_lag, most_back, least_sample, most_sample}
+use Rattle.turbomap.specs.declared.reading.Rows.{Rows}
+use Rattle.turbomap.specs.declared.reading.Rows.TheVariants.{Single, Prime}
 use Rattle.turbomap.specs.Names.{are_names, files_of}
-use Rattle.turbomap.specs.Words.{Asked, map_files, check_files, sim_files, show_file, digit_between, with_numbers, map_form, check_of, sim_of, show_of, asked_of}
+use Rattle.turbomap.specs.Words.{Asked, map_files, check_files, sim_files, show_file, large_sample, bound_file, digit_between, number_between, with_numbers, map_form, check_of, sim_of, show_of, large_of, bound_of, five_words, six_words, asked_of}
 use Rattle.turbomap.proofs.Decided.{HasTables}
 
 -- what holds of both holds of the choice
@@ -33,10 +35,10 @@ asked_with (Some k) (Some d) ask some each = each k d some
 numbers_have : (k d : List ℕ) (ask : ℕ → ℕ → Option Asked) → ((n m : ℕ) → 1 ≤ n → IfSome (ask n m) HasTables) → IfSome (with_numbers k d ask) HasTables
 numbers_have k d ask each = asked_with (digit_between 2 most_inputs k) (digit_between 0 most_lag d) ask (digit_some most_inputs k) each
 
-map_has : (k d input output : List ℕ) (certificate : Option (List ℕ)) → IfSome (map_form k d input output certificate) HasTables
-map_has k d input output certificate =
-    numbers_have k d (λ n m. if are_names (files_of input output certificate) then Some (map_files n m input output certificate) else None)
-    (λ n m some. either (are_names (files_of input output certificate)) (Some (map_files n m input output certificate)) None tt tt)
+map_has : (rows : Rows) (k d input output : List ℕ) (certificate : Option (List ℕ)) → IfSome (map_form rows k d input output certificate) HasTables
+map_has rows k d input output certificate =
+    numbers_have k d (λ n m. if are_names (files_of input output certificate) then Some (map_files rows n m input output certificate) else None)
+    (λ n m some. either (are_names (files_of input output certificate)) (Some (map_files rows n m input output certificate)) None tt tt)
 
 check_has : (k d input output certificate : List ℕ) → IfSome (check_of k d input output certificate) HasTables
 check_has k d input output certificate =
@@ -44,20 +46,53 @@ check_has k d input output certificate =
     (λ n m. if are_names (input ∷ output ∷ certificate ∷ []) then Some (check_files n m input output certificate) else None)
     (λ n m some. either (are_names (input ∷ output ∷ certificate ∷ [])) (Some (check_files n m input output certificate)) None some tt)
 
+number_has : (number : Option ℕ) (ask : ℕ → Option Asked) → ((n : ℕ) → IfSome (ask n) HasTables) → IfSome (option_and_then ask number) HasTables
+number_has None ask each = tt
+number_has (Some number) ask each = each number
+
+large_has : (number k d : List ℕ) → IfSome (large_of number k d) HasTables
+large_has number k d =
+    number_has (number_between least_sample most_sample number) (λ number. with_numbers k d (λ n m. Some (large_sample number n m)))
+    (λ number. numbers_have k d (λ n m. Some (large_sample number n m)) (λ n m some. tt))
+
+bound_has : (k d b input : List ℕ) → IfSome (bound_of k d b input) HasTables
+bound_has k d b input =
+    numbers_have k d
+    (λ n m. option_and_then (λ b. if are_names (input ∷ []) then Some (bound_file n m b input) else None) (digit_between 0 most_back b))
+    (λ n m some. number_has (digit_between 0 most_back b) (λ b. if are_names (input ∷ []) then Some (bound_file n m b input) else None)
+    (λ b. either (are_names (input ∷ [])) (Some (bound_file n m b input)) None tt tt))
+
+five_have : (verb k d third fourth : List ℕ) → IfSome (five_words verb k d third fourth) HasTables
+unfolding five_words
+five_have verb k d third fourth =
+    let bounds = if bytes_eq verb (codes "bound") then bound_of k d third fourth else None in
+    let primes = if bytes_eq verb (codes "prime") then map_form Prime k d third fourth None else bounds in
+    either (bytes_eq verb (codes "map")) (map_form Single k d third fourth None) primes (map_has Single k d third fourth None)
+    (either (bytes_eq verb (codes "prime")) (map_form Prime k d third fourth None) bounds (map_has Prime k d third fourth None)
+    (either (bytes_eq verb (codes "bound")) (bound_of k d third fourth) None (bound_has k d third fourth) tt))
+
+six_have : (verb k d input output certificate : List ℕ) → IfSome (six_words verb k d input output certificate) HasTables
+unfolding six_words
+six_have verb k d input output certificate =
+    let checks = if bytes_eq verb (codes "check") then check_of k d input output certificate else None in
+    let primes = if bytes_eq verb (codes "prime") then map_form Prime k d input output (Some certificate) else checks in
+    either (bytes_eq verb (codes "map")) (map_form Single k d input output (Some certificate)) primes
+    (map_has Single k d input output (Some certificate))
+    (either (bytes_eq verb (codes "prime")) (map_form Prime k d input output (Some certificate)) checks
+    (map_has Prime k d input output (Some certificate))
+    (either (bytes_eq verb (codes "check")) (check_of k d input output certificate) None (check_has k d input output certificate) tt))
+
 pub words_have_tables : (words : List (List ℕ)) → IfSome (asked_of words) HasTables
 words_have_tables [] = tt
 words_have_tables (verb ∷ []) = tt
 words_have_tables (verb ∷ input ∷ []) =
     either (bytes_eq verb (codes "show")) (show_of input) None (either (are_names (input ∷ [])) (Some (show_file input)) None tt tt) tt
 words_have_tables (verb ∷ a ∷ b ∷ []) = tt
-words_have_tables (verb ∷ input ∷ vectors ∷ output ∷ []) =
-    either (bytes_eq verb (codes "sim")) (sim_of input vectors output) None
-    (either (are_names (input ∷ vectors ∷ output ∷ [])) (Some (sim_files input vectors output)) None tt tt) tt
-words_have_tables (verb ∷ k ∷ d ∷ input ∷ output ∷ []) =
-    either (bytes_eq verb (codes "map")) (map_form k d input output None) None (map_has k d input output None) tt
-words_have_tables (verb ∷ k ∷ d ∷ input ∷ output ∷ certificate ∷ []) =
-    either (bytes_eq verb (codes "map")) (map_form k d input output (Some certificate))
-    (if bytes_eq verb (codes "check") then check_of k d input output certificate else None)
-    (map_has k d input output (Some certificate))
-    (either (bytes_eq verb (codes "check")) (check_of k d input output certificate) None (check_has k d input output certificate) tt)
+words_have_tables (verb ∷ first ∷ second ∷ third ∷ []) =
+    either (bytes_eq verb (codes "sim")) (sim_of first second third)
+    (if bytes_eq verb (codes "large") then large_of first second third else None)
+    (either (are_names (first ∷ second ∷ third ∷ [])) (Some (sim_files first second third)) None tt tt)
+    (either (bytes_eq verb (codes "large")) (large_of first second third) None (large_has first second third) tt)
+words_have_tables (verb ∷ k ∷ d ∷ third ∷ fourth ∷ []) = five_have verb k d third fourth
+words_have_tables (verb ∷ k ∷ d ∷ input ∷ output ∷ certificate ∷ []) = six_have verb k d input output certificate
 words_have_tables (verb ∷ a ∷ b ∷ c ∷ d ∷ e ∷ f ∷ words) = tt

@@ -261,6 +261,11 @@ Runs command around status = IsRefused command around status
 
 -- ---- which statuses come where files are told
 
+-- the files are told, where there are any
+abbrev pub AreTold : Option Files → List Input → Type 0
+AreTold told [] = Unit {0}
+AreTold told (input ∷ inputs) = IsSome told
+
 -- the texts of all files are told, and they are refused with this status
 pub record AreToldRefused (command : Command) (told : Option Files) (status : Status) : Type 0 where
   pub tells : IsSome told
@@ -282,7 +287,7 @@ IsToldLong command told = IsToldOver command told ⊎ AreToldRefused command tol
 
 -- the texts of all files are told, and they can be worked on
 pub record AreToldAccepted (command : Command) (told : Option Files) : Type 0 where
-  pub tells : IsSome told
+  pub tells : AreTold told command.inputs
   pub texts : List (List ℕ)
   pub read : AreTexts told command.inputs texts
   pub accepted : command.Accepts texts

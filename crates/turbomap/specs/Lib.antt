@@ -1,7 +1,9 @@
 pub mod Asking
+pub mod Bound
 pub mod Check
 pub mod Command
 pub mod Kind
+pub mod Large
 pub mod Line
 pub mod Map
 pub mod Names

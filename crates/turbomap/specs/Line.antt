@@ -26,6 +26,16 @@ abbrev pub mapped_line : ℕ → ℕ → ℕ → List ℕ
 mapped_line period tables registers =
     codes "period " ++ decimal period ++ codes " tables " ++ decimal tables ++ codes " registers " ++ decimal registers
 
+-- the least period where registers may also move backward
+abbrev pub bound_line : ℕ → List ℕ
+bound_line period = codes "bound period " ++ decimal period
+
+-- a sample that was mapped, with its number, and the number of drops of the certificate that was accepted
+abbrev pub large_line : ℕ → ℕ → ℕ → ℕ → ℕ → List ℕ
+large_line number period tables registers drops =
+    codes "large " ++ decimal number ++ codes " period " ++ decimal period ++ codes " tables " ++ decimal tables ++ codes " registers "
+    ++ decimal registers ++ codes " drops " ++ decimal drops ++ codes " accepted"
+
 -- a simulation: its number of steps
 abbrev pub steps_line : ℕ → List ℕ
 steps_line steps = codes "steps " ++ decimal steps

@@ -6,11 +6,13 @@ use Rattle.turbomap.specs.declared.status.Status.TheVariants.{Done, NoMemory, Ba
 use Rattle.turbomap.specs.Command as command
 use Rattle.turbomap.specs.Command.{Command, Around, IsUnchanged, Says, Runs}
 use Rattle.turbomap.specs.Line.{bad_words_line}
+use Rattle.turbomap.specs.Bound.{bound_command}
 use Rattle.turbomap.specs.Check.{check_command}
-use Rattle.turbomap.specs.Map.{map_command}
+use Rattle.turbomap.specs.Large.{large_command}
+use Rattle.turbomap.specs.Map.{rule_of, map_command}
 use Rattle.turbomap.specs.Show.{show_command}
 use Rattle.turbomap.specs.Simulate.{sim_command}
-use Rattle.turbomap.specs.Words.{Asked, map_files, check_files, sim_files, show_file}
+use Rattle.turbomap.specs.Words.{Asked, map_files, check_files, sim_files, show_file, large_sample, bound_file}
 
 -- the number that stands for a status
 abbrev pub number : Status → ℕ
@@ -25,10 +27,12 @@ number NotAccepted = 7
 
 -- the command that is asked for
 abbrev pub command_of : Asked → Command
-command_of (map_files k d input output certificate) = map_command k d input output certificate
+command_of (map_files rows k d input output certificate) = map_command (rule_of rows) k d input output certificate
 command_of (check_files k d input output certificate) = check_command k d input output certificate
 command_of (sim_files input vectors output) = sim_command input vectors output
 command_of (show_file input) = show_command input
+command_of (large_sample number k d) = large_command number k d
+command_of (bound_file k d b input) = bound_command k d b input
 
 -- words without a reading are refused, and no file changed
 pub record IsRefusedWords (around : Around) : Type 0 where

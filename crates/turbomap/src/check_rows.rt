@@ -236,44 +236,53 @@ pub struct Check {
 }
 
 // Two equal latches, each a leaf of its own as version 1 has it.
-const TWIN: Check = Check {
+pub const TWIN: &str =
+    ".model twin\n.inputs a b c\n.outputs y\n.latch a q 0\n.latch a r 0\n.names q b g\n10 1\n01 1\n.names r c h\n10 1\n01 1\n.names g h y\n11 1\n.end\n";
+
+pub const TWIN_MAPPED: &str =
+    ".model twin\n.inputs a b c\n.outputs y\n.latch a q 0\n.latch a r 0\n.names b q g\n01 1\n10 1\n.names c r h\n01 1\n10 1\n.names g h y\n11 1\n.end\n";
+
+pub const TWIN_CERT: &str =
+    "turbomap 1\nperiod 2\ntables 3\ntable 5 0 1.0 3.0\ntable 6 0 2.0 4.0\ntable 7 0 5.0 6.0\ndrops 1\ndrop 7 0 1 00 01 10 11\nend\n";
+
+const CHECK_TWIN: Check = Check {
     k: "3",
     d: "0",
-    text: ".model twin\n.inputs a b c\n.outputs y\n.latch a q 0\n.latch a r 0\n.names q b g\n10 1\n01 1\n.names r c h\n10 1\n01 1\n.names g h y\n11 1\n.end\n",
-    mapped: ".model twin\n.inputs a b c\n.outputs y\n.latch a q 0\n.latch a r 0\n.names b q g\n01 1\n10 1\n.names c r h\n01 1\n10 1\n.names g h y\n11 1\n.end\n",
-    cert: "turbomap 1\nperiod 2\ntables 3\ntable 5 0 1.0 3.0\ntable 6 0 2.0 4.0\ntable 7 0 5.0 6.0\ndrops 1\ndrop 7 0 1 00 01 10 11\nend\n",
+    text: TWIN,
+    mapped: TWIN_MAPPED,
+    cert: TWIN_CERT,
     status: 0,
     said: "accepted period 2 drops 1\n",
 };
 
 pub const CHECKS: &[Check] = &[
-    TWIN,
+    CHECK_TWIN,
     // by version 2 the second latch is read as the first
     Check {
         cert: "turbomap 2\nperiod 2\ntables 3\ntable 5 0 1.0 3.0\ntable 6 0 2.0 4.0\ntable 7 0 5.0 6.0\ndrops 1\ndrop 7 0 1 00 01 10 11\nend\n",
         status: 7,
         said: "not accepted: entry 2: Uncovered\n",
-        ..TWIN
+        ..CHECK_TWIN
     },
     // the first text at fault, the second, and the first before the others
     Check {
         text: ".outputs z\n",
         status: 5,
         said: "t.blif: line 1: Undriven\n",
-        ..TWIN
+        ..CHECK_TWIN
     },
     Check {
         mapped: ".outputs z\n",
         status: 5,
         said: "o.blif: line 1: Undriven\n",
-        ..TWIN
+        ..CHECK_TWIN
     },
     Check {
         mapped: ".outputs z\n",
         cert: "",
         status: 5,
         said: "o.blif: line 1: Undriven\n",
-        ..TWIN
+        ..CHECK_TWIN
     },
 ];
 
@@ -287,12 +296,6 @@ pub struct Certified {
 }
 
 pub const CERTIFIED: &[Certified] = &[
-    Certified {
-        k: "2",
-        d: "0",
-        text: crate::rows::TOGGLE,
-        cert: "turbomap 2\nperiod 1\ntables 1\ntable 2 0 0.0 1.0\ndrops 0\nend\n",
-    },
     Certified {
         k: "2",
         d: "1",

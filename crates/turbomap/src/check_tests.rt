@@ -1,66 +1,17 @@
-// Certificates: those that `map` writes, which `check` accepts, and what it says of others.
+// Certificates: those that `map` and `prime` write, which `check` accepts, and what it says of others.
 
-use crate::check_rows::{CERTIFIED, CHANGES, CHECKS, Change, Check, RING3, RING3_CERT};
-use crate::rows::{MAPPINGS, TOGGLE, TOGGLE_MAPPED};
-use crate::tests::{Ending, end_of};
-use std::alloc::{AllocError, Global};
+use crate::check_rows::{CERTIFIED, CHANGES, CHECKS, Certified, Change, Check, RING3, RING3_CERT};
+use crate::rows::{MAPPINGS, Mapping, PRIMES};
+use crate::tests::{Ending, Files, end_of};
+use std::alloc::Global;
 use std::process::Abort;
 use std::test::Fail;
-use tm_store::{MemStore, Slot};
+use tm_make::sample;
 
-// A store where `t.blif` holds a text, and `o.blif` and `c.cert` these or nothing.
-fn store_of(
-    alloc: Global,
-    text: &str,
-    mapped: Option<Vec<u8>>,
-    cert: Option<Vec<u8>>,
-    failing: &[u64],
-) -> Result<MemStore, AllocError> {
-    let text = Vec::from_slice(alloc, text.as_bytes())?;
-    let mut slots = Vec::new(alloc);
-    slots.push(Slot {
-        name: String::from_str(alloc, "t.blif")?,
-        bytes: Some(text),
-    })?;
-    slots.push(Slot {
-        name: String::from_str(alloc, "o.blif")?,
-        bytes: mapped,
-    })?;
-    slots.push(Slot {
-        name: String::from_str(alloc, "c.cert")?,
-        bytes: cert,
-    })?;
-    Ok(MemStore::new(slots, Vec::from_slice(alloc, failing)?))
-}
-
-// The end of a mapping with a certificate.
-fn mapped(
-    alloc: Global,
-    k: &str,
-    d: &str,
-    text: &str,
-    failing: &[u64],
-    silent: &[u64],
-) -> Result<Ending, Fail> {
-    let words = ["map", k, d, "t.blif", "o.blif", "c.cert"];
-    let store = store_of(alloc, text, None, None, failing)?;
-    end_of(alloc, &words, store, silent)
-}
-
-// The end of a check of three texts.
-fn checked(
-    alloc: Global,
-    k: &str,
-    d: &str,
-    text: &str,
-    mapped: &[u8],
-    cert: &[u8],
-) -> Result<Ending, Fail> {
+// The end of a check of the texts that files hold.
+fn checked(alloc: Global, k: &str, d: &str, files: Files<'_>) -> Result<Ending, Fail> {
     let words = ["check", k, d, "t.blif", "o.blif", "c.cert"];
-    let mapped = Vec::from_slice(alloc, mapped)?;
-    let cert = Vec::from_slice(alloc, cert)?;
-    let store = store_of(alloc, text, Some(mapped), Some(cert), &[])?;
-    end_of(alloc, &words, store, &[])
+    end_of(alloc, &words, files, &[], &[])
 }
 
 // The worked certificate, with a change.
@@ -80,25 +31,30 @@ fn changed(alloc: Global, change: &Change) -> Result<Vec<u8>, Fail> {
 
 fn check_change(rt: &impl Abort, alloc: Global, change: &Change) -> Result<(), Fail> {
     let cert = changed(alloc, change)?;
-    let ends = checked(alloc, "2", "1", RING3, change.mapped.as_bytes(), &cert)?;
-    assert_eq!(rt; ends.status, change.status, "{}", change.said);
-    assert!(rt;
-        ends.say.said() == change.said.as_bytes(),
-        "{}",
-        change.said
-    );
+    let files = Files {
+        mapped: change.mapped.as_bytes(),
+        cert: &cert,
+        ..Files::of(RING3.as_bytes())
+    };
+    let ends = checked(alloc, "2", "1", files)?;
+    let as_told = ends.status == change.status && ends.say.said() == change.said.as_bytes();
+    assert!(rt; as_told, "{}", change.said);
     Ok(())
 }
 
 fn check_three(rt: &impl Abort, alloc: Global, row: &Check) -> Result<(), Fail> {
-    let mapped = row.mapped.as_bytes();
-    let ends = checked(alloc, row.k, row.d, row.text, mapped, row.cert.as_bytes())?;
-    assert_eq!(rt; ends.status, row.status, "{}", row.said);
-    assert!(rt; ends.say.said() == row.said.as_bytes(), "{}", row.said);
+    let files = Files {
+        mapped: row.mapped.as_bytes(),
+        cert: row.cert.as_bytes(),
+        ..Files::of(row.text.as_bytes())
+    };
+    let ends = checked(alloc, row.k, row.d, files)?;
+    let as_told = ends.status == row.status && ends.say.said() == row.said.as_bytes();
+    assert!(rt; as_told, "{}", row.said);
     Ok(())
 }
 
-// The rows *check* and *a hostile certificate*, and both versions of the certificate of two equal latches.
+// Changes of the worked certificate, and both versions of the certificate of two equal latches.
 #[test]
 fn certificates_are_checked(rt: HostRuntime) -> Result<(), Fail> {
     for change in CHANGES {
@@ -110,48 +66,87 @@ fn certificates_are_checked(rt: HostRuntime) -> Result<(), Fail> {
     Ok(())
 }
 
+// The end of a mapping with a certificate.
+fn certified(alloc: Global, verb: &str, k: &str, d: &str, text: &[u8]) -> Result<Ending, Fail> {
+    let words = [verb, k, d, "t.blif", "o.blif", "c.cert"];
+    end_of(alloc, &words, Files::of(text), &[], &[])
+}
+
+// A certificate begins so.
+fn check_text(rt: &impl Abort, alloc: Global, row: &Certified) -> Result<(), Fail> {
+    let ends = certified(alloc, "map", row.k, row.d, row.text.as_bytes())?;
+    assert!(rt;
+        ends.held("c.cert").starts_with(row.cert.as_bytes()),
+        "{}",
+        row.cert
+    );
+    Ok(())
+}
+
 // A certificate that is made is accepted.
-fn check_made(rt: &impl Abort, alloc: Global, k: &str, d: &str, text: &str) -> Result<(), Fail> {
-    let made = mapped(alloc, k, d, text, &[], &[])?;
-    assert_eq!(rt; made.status, 0, "{text}");
-    let ends = checked(alloc, k, d, text, made.held("o.blif"), made.held("c.cert"))?;
-    assert_eq!(rt; ends.status, 0, "{text}");
-    assert!(rt; ends.say.said().starts_with(b"accepted period "), "{text}");
+fn check_made(rt: &impl Abort, alloc: Global, verb: &str, row: &Mapping) -> Result<(), Fail> {
+    let text = row.text.as_bytes();
+    let made = certified(alloc, verb, row.k, row.d, text)?;
+    let files = Files {
+        mapped: made.held("o.blif"),
+        cert: made.held("c.cert"),
+        ..Files::of(text)
+    };
+    let ends = checked(alloc, row.k, row.d, files)?;
+    assert!(rt;
+        ends.status == 0 && ends.say.said().starts_with(b"accepted period "),
+        "{}",
+        row.text
+    );
     Ok(())
 }
 
 #[test]
 fn certificates_are_written(rt: HostRuntime) -> Result<(), Fail> {
-    let alloc = rt.alloc();
     for row in CERTIFIED {
-        let ends = mapped(alloc, row.k, row.d, row.text, &[], &[])?;
-        assert!(rt;
-            ends.held("c.cert").starts_with(row.cert.as_bytes()),
-            "{}",
-            row.cert
-        );
+        check_text(&rt, rt.alloc(), row)?;
     }
     for row in MAPPINGS {
-        check_made(&rt, alloc, row.k, row.d, row.text)?;
+        check_made(&rt, rt.alloc(), "map", row)?;
+    }
+    for row in PRIMES {
+        check_made(&rt, rt.alloc(), "prime", row)?;
     }
     Ok(())
 }
 
-// The row *failing files*.
+// What is said of a sample is what is said where its text is mapped and the files are checked; and where no register may move backward, the
+// bound is the period.
 #[test]
-fn writes_come_in_order(rt: HostRuntime) -> Result<(), Fail> {
+fn samples_are_mapped_like_their_texts(rt: HostRuntime) -> Result<(), Fail> {
     let alloc = rt.alloc();
-    let ends = mapped(alloc, "2", "0", TOGGLE, &[1], &[])?;
-    assert_eq!(rt; ends.status, 4);
-    assert!(rt; ends.say.said() == b"cannot write o.blif\n".as_slice());
-    assert!(rt; ends.held("c.cert") == b"nothing".as_slice());
-    let ends = mapped(alloc, "2", "0", TOGGLE, &[2], &[])?;
-    assert_eq!(rt; ends.status, 4);
-    assert!(rt; ends.say.said() == b"cannot write c.cert\n".as_slice());
-    assert!(rt; ends.out() == TOGGLE_MAPPED.as_bytes());
-    let ends = mapped(alloc, "2", "0", TOGGLE, &[], &[0])?;
-    assert_eq!(rt; ends.status, 4);
-    assert!(rt; ends.out() == TOGGLE_MAPPED.as_bytes());
-    assert!(rt; ends.held("c.cert").starts_with(b"turbomap 2\n"));
+    let text = sample(alloc, 400)?;
+    let made = certified(alloc, "map", "4", "2", &text)?;
+    let files = Files {
+        mapped: made.held("o.blif"),
+        cert: made.held("c.cert"),
+        ..Files::of(&text)
+    };
+    let ends = checked(alloc, "4", "2", files)?;
+    let drops = last_word(ends.say.said());
+    let line = end_of(alloc, &["large", "400", "4", "2"], files, &[], &[])?;
+    let mut said = Vec::from_slice(alloc, b"large 400 ")?;
+    said.extend_from_slice(made.say.said().trim_ascii_end())?;
+    said.extend_from_slice(b" drops ")?;
+    said.extend_from_slice(drops.trim_ascii_end())?;
+    said.extend_from_slice(b" accepted\n")?;
+    assert!(rt; line.say.said() == said.as_slice());
+    let bound = end_of(alloc, &["bound", "4", "2", "0", "t.blif"], files, &[], &[])?;
+    let period = bound.say.said().trim_ascii_end();
+    assert!(rt;
+        made.say
+            .said()
+            .starts_with(period.get(6..).unwrap_or(b"no"))
+    );
     Ok(())
+}
+
+// The part of a line after its last blank.
+fn last_word(line: &[u8]) -> &[u8] {
+    line.rsplit(|byte| *byte == b' ').next().unwrap_or(b"")
 }

@@ -2,9 +2,10 @@
 
 ghost use Rattle.std.specs.Prelude.{◌≡◌, IfOk, string_bytes};
 ghost use Rattle.turbomap.specs.Line.{unread_line, unwritten_line, too_long_line, fault_line, mapped_line, accepted_line};
-ghost use Rattle.turbomap.specs.Line.{not_accepted_line, steps_line};
+ghost use Rattle.turbomap.specs.Line.{not_accepted_line, steps_line, large_line, bound_line};
 
 use std::alloc::{AllocError, Global};
+use tm_texts::Large;
 
 /// Says that there is no memory.
 pub const NO_MEMORY: &str = "no memory";
@@ -50,6 +51,29 @@ pub fn mapped_line(
     ensures { IfOk result (λ line. string_bytes line ≡ mapped_line period tables registers) }
 {
     format!(in alloc; "period {period} tables {tables} registers {registers}")
+}
+
+/// Says the least period where registers may also move backward.
+pub fn bound_line(alloc: Global, period: u32) -> Result<String, AllocError>
+    ensures { IfOk result (λ line. string_bytes line ≡ bound_line period) }
+{
+    format!(in alloc; "bound period {period}")
+}
+
+/// Says the number of a sample, the period of its mapped circuit, its numbers of tables and registers, and the number of drops of its
+/// certificate, which is accepted.
+pub fn large_line(alloc: Global, number: u32, large: Large) -> Result<String, AllocError>
+    ensures { IfOk result (λ line. string_bytes line ≡ large_line number large.period large.tables large.registers large.drops) }
+{
+    let Large {
+        period,
+        tables,
+        registers,
+        drops,
+    } = large;
+    format!(in alloc;
+        "large {number} period {period} tables {tables} registers {registers} drops {drops} accepted"
+    )
 }
 
 /// Says the number of steps of a simulation.

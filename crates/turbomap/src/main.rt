@@ -3,6 +3,7 @@
 //! it the files, the standard output and the words of the command line.
 #![tactic(auto)]
 
+mod bound_file;
 mod check_files;
 #[cfg(test)]
 mod check_rows;
@@ -10,6 +11,7 @@ mod check_rows;
 mod check_tests;
 mod deliver;
 mod kind;
+mod large;
 mod line;
 mod map_file;
 pub mod reading;
@@ -33,7 +35,8 @@ use std::process::ExitCode;
 use std::{env, io};
 use tm_store::{FileStore, OutSay};
 pub use tm_texts::{
-    CheckFault, Checked, MapFault, Mapped, SimFault, Simulated, check_texts, map_text, sim_text,
+    CheckFault, Checked, MapFault, Mapped, SimFault, Simulated, check_texts, map_text, prime_text,
+    sim_text,
 };
 
 /// The exit status where there is no memory for the words.

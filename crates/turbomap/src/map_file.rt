@@ -1,24 +1,26 @@
-// `map`: reads the file, and makes ready what is to be written and said.
+// `map` and `prime`: reads the file, and makes ready what is to be written and said.
 
 ghost use Rattle.std.specs.Prelude.{◌≡◌, ◌≤◌, ℕ, List, [], ◌∷◌, length, option_map, IfOk, IfErr};
 ghost use Rattle.cert_text.specs.Certificates.{HasSpelling, certificate_of};
 ghost use Rattle.turbomap.specs.Command.{stored};
 ghost use Rattle.tm_texts.specs.Limits.{source_bytes};
+ghost use Rattle.tm_texts.specs.Maps.{Maps};
+ghost use Rattle.tm_texts.specs.Sources.{IsMapFault};
 ghost use Rattle.turbomap.specs.Asking.{map_asked};
 ghost use Rattle.turbomap.specs.Line.{mapped_line};
-ghost use Rattle.turbomap.specs.Map.{mapped_writes};
+ghost use Rattle.turbomap.specs.Map.{rule_of, mapped_writes};
 ghost use Rattle.turbomap.specs.Prepared.{AreReady, IsMade, IsReady, IsTextRefusal, HasCause};
 
 use crate::kind::kind_name;
 use crate::line::{fault_line, mapped_line};
-use crate::reading::MapWords;
+use crate::reading::{MapWords, Rows};
 use crate::ready::{Ready, one_output, two_outputs};
 use crate::refusal::Refusal;
 use crate::text::read_file;
 use std::alloc::Global;
 use tm_bits::NoMemory;
 use tm_store::Store;
-use tm_texts::{MapFault, Mapped, SOURCE_BYTES, map_text};
+use tm_texts::{MapFault, Mapped, SOURCE_BYTES, map_text, prime_text};
 
 /// Reads the file and maps its text.
 pub fn prepare_map<'a, S: Store>(
@@ -46,13 +48,26 @@ fn make_map<'a>(alloc: Global, words: MapWords<'a>, text: &[u8]) -> Result<Ready
     ensures refused { IfErr result
         (IsTextRefusal (map_asked words.entry) (text.now ∷ [])) }
 {
-    match map_text(alloc, text, words.k, words.d) {
+    match map_rows(alloc, words, text) {
         Ok(mapped) => Ok(write_mapped(alloc, words, mapped)?),
         Err(MapFault::Text { line, kind }) => {
             let kind = kind_name(kind);
             Err(Refusal::BadText(fault_line(alloc, words.input, line, kind)?))
         }
         Err(MapFault::NoMemory) => Err(Refusal::NoMemory),
+    }
+}
+
+// Maps the text, with the rows that are asked for.
+fn map_rows(alloc: Global, words: MapWords<'_>, text: &[u8]) -> Result<Mapped, MapFault>
+    requires short { length text.now ≤ source_bytes }
+    ensures maps { IfOk result (λ mapped. Maps (rule_of words.entry.rows) words.entry.k words.entry.d text.now mapped.text.items
+        (certificate_of mapped.cert) mapped.tables mapped.registers) }
+    ensures fault { IfErr result (IsMapFault words.entry.k text.now) }
+{
+    match words.rows {
+        Rows::Single => map_text(alloc, text, words.k, words.d),
+        Rows::Prime => prime_text(alloc, text, words.k, words.d),
     }
 }
 

@@ -1,6 +1,6 @@
 // The rows of the tests: texts, and what the program makes of them, worked out by hand.
 
-use crate::check_rows::{RING3, RING3_MAPPED};
+use crate::check_rows::{RING3, RING3_MAPPED, TWIN, TWIN_CERT, TWIN_MAPPED};
 
 // What stands for the text of a file that holds none.
 pub const NOTHING: &str = "nothing";
@@ -20,6 +20,8 @@ pub const FOUR: &str =
 pub const FOUR_MOVED: &str =
     ".model four\n.inputs a b c d\n.outputs y\n.latch g3 y 0\n.latch g1+1 g1 0\n.latch g2+1 g2 1\n\
      .names a b g1+1\n11 1\n.names c d g2+1\n11 1\n.names g1 g2 g3\n01 1\n10 1\n11 1\n.end\n";
+
+pub const TOGGLE_CERT: &str = "turbomap 2\nperiod 1\ntables 1\ntable 2 0 0.0 1.0\ndrops 0\nend\n";
 
 // A counter of two bits without inputs.
 pub const COUNT: &str =
@@ -68,21 +70,24 @@ pub const MAP: [&str; 5] = ["map", "2", "0", "t.blif", "o.blif"];
 
 pub const SIM: [&str; 4] = ["sim", "t.blif", "v", "o.blif"];
 
-// A run of the program: its words, the texts that `t.blif` and `v` hold, the numbers of the calls of the store and of the sayer that
-// fail, and then the status, what was said and what `o.blif` holds.
+// A run of the program: its words, the texts that `t.blif` and `v` hold, those that `o.blif` and `c.cert` hold before, the numbers of the
+// calls of the store and of the sayer that fail, and then the status, what was said and what `o.blif` and `c.cert` hold.
 #[derive(Clone, Copy)]
 pub struct Run<'a> {
     pub words: &'a [&'a str],
     pub text: &'a str,
     pub vectors: &'a str,
+    pub held: &'a str,
+    pub cert: &'a str,
     pub failing: &'a [u64],
     pub silent: &'a [u64],
     pub status: u8,
     pub said: &'a str,
     pub out: &'a str,
+    pub made: &'a str,
 }
 
-// A text that is mapped with K and D, what is said and what is written.
+// A text that is mapped with K and D, what is said and what is written, or how that begins where leaves are free.
 #[derive(Clone, Copy)]
 pub struct Mapping {
     pub k: &'static str,
@@ -191,7 +196,7 @@ pub const MAPPINGS: &[Mapping] = &[
     Mapping {
         k: "3",
         d: "0",
-        text: ".model twin\n.inputs a b c\n.outputs y\n.latch a q 0\n.latch a r 0\n.names q b g\n10 1\n01 1\n.names r c h\n10 1\n01 1\n.names g h y\n11 1\n.end\n",
+        text: TWIN,
         said: "period 1 tables 1 registers 1\n",
         out: ".model twin\n.inputs a b c\n.outputs y\n.latch a q 0\n.names b c q y\n001 1\n110 1\n.end\n",
     },
@@ -277,6 +282,56 @@ pub const MAPPINGS: &[Mapping] = &[
     },
 ];
 
+// Texts of which leaves are free: a wide gate, a circuit without inputs, and tables that are absorbed at K 3.
+pub const FREE: &[Mapping] = &[
+    Mapping {
+        k: "4",
+        d: "0",
+        text: WIDE,
+        said: "period 2 tables ",
+        out: ".model top\n.inputs a b c d e f g\n.outputs y\n.names ",
+    },
+    Mapping {
+        k: "2",
+        d: "3",
+        text: COUNT,
+        said: "period 1 tables 2 registers 8\n",
+        out: COUNT_MOVED,
+    },
+    Mapping {
+        k: "3",
+        d: "0",
+        text: FOUR,
+        said: "period 2 tables 2 registers 5\n",
+        out: ".model four\n",
+    },
+];
+
+// Texts that are mapped with prime rows.
+pub const PRIMES: &[Mapping] = &[
+    Mapping {
+        k: "2",
+        d: "0",
+        text: FOUR,
+        said: "period 2 tables 3 registers 5\n",
+        out: FOUR,
+    },
+    Mapping {
+        k: "4",
+        d: "0",
+        text: FOUR,
+        said: "period 1 tables 1 registers 5\n",
+        out: ".model four\n.inputs a b c d\n.outputs y\n.latch a q1 0\n.latch b q2 0\n.latch c q3 1\n.latch d q4 1\n.latch g3 y 0\n.names q1 q2 q3 q4 g3\n11-- 1\n--11 1\n.end\n",
+    },
+    Mapping {
+        k: "4",
+        d: "0",
+        text: ABC,
+        said: "period 1 tables 2 registers 1\n",
+        out: ".model s\n.inputs a b\n.outputs y\n.latch n5 q 0\n.names a b q n5\n11- 1\n--1 1\n.names q y\n0 1\n.end\n",
+    },
+];
+
 // A text that `map 2 0` refuses, and what is said of it.
 #[derive(Clone, Copy)]
 pub struct Refused {
@@ -330,7 +385,16 @@ pub const WITHOUT_READING: &[&[&str]] = &[
     &["check", "2", "9", "a", "b", "c"],
     &["check", "2", "0", "a", "b", "b"],
     &["check", "2", "0", "a", "b"],
+    &["prime", "2", "0", "a", "b", "a"],
+    &["prime", "2", "9", "a", "b"],
     &["large", "7", "2", "0"],
+    &["large", "20001", "2", "0"],
+    &["large", "08", "2", "0"],
+    &["large", "+8", "2", "0"],
+    &["large", "8", "9", "0"],
+    &["large", "8", "2"],
+    &["bound", "2", "0", "0", ""],
+    &["bound", "2", "0", "back.blif"],
     &["bound", "2", "0", "9", "back.blif"],
     &["sim", "t.blif", "v", "v"],
     &["sim", "t.blif", "o.blif"],
@@ -343,25 +407,33 @@ pub const MAP_TOGGLE: Run<'static> = Run {
     words: &MAP,
     text: TOGGLE,
     vectors: "",
+    held: NOTHING,
+    cert: NOTHING,
     failing: &[],
     silent: &[],
     status: 0,
     said: "period 1 tables 1 registers 1\n",
     out: TOGGLE_MAPPED,
+    made: NOTHING,
 };
 
-pub const SIM_FOUR: Run<'static> = Run {
+// Writes a certificate too.
+const CERTIFY_TOGGLE: Run<'static> = Run {
+    words: &["map", "2", "0", "t.blif", "o.blif", "c.cert"],
+    made: TOGGLE_CERT,
+    ..MAP_TOGGLE
+};
+
+const SIM_FOUR: Run<'static> = Run {
     words: &SIM,
     text: FOUR,
     vectors: "1100\n0000\n0011\n0000\n",
-    failing: &[],
-    silent: &[],
-    status: 0,
     said: "steps 4\n",
     out: "0\n1\n1\n0\n",
+    ..MAP_TOGGLE
 };
 
-pub const SIM_PAIR: Run<'static> = Run {
+const SIM_PAIR: Run<'static> = Run {
     text: PAIR,
     vectors: "11\n00\n11\n",
     said: "steps 3\n",
@@ -369,15 +441,44 @@ pub const SIM_PAIR: Run<'static> = Run {
     ..SIM_FOUR
 };
 
-pub const SHOW_ABC: Run<'static> = Run {
+const SHOW_ABC: Run<'static> = Run {
     words: &["show", "t.blif"],
     text: ABC,
-    vectors: "",
-    failing: &[],
-    silent: &[],
-    status: 0,
     said: "model s\ninputs 2 outputs 1 latches 1 gates 3\nwidest 2\nperiod 2\nchain new_n4 n5\nslack new_n4 0\nslack n5 0\nslack y 1\n",
     out: NOTHING,
+    ..MAP_TOGGLE
+};
+
+// The certificate of two equal latches, checked.
+const CHECK_TWIN: Run<'static> = Run {
+    words: &["check", "3", "0", "t.blif", "o.blif", "c.cert"],
+    text: TWIN,
+    held: TWIN_MAPPED,
+    cert: TWIN_CERT,
+    said: "accepted period 2 drops 1\n",
+    out: TWIN_MAPPED,
+    made: TWIN_CERT,
+    ..MAP_TOGGLE
+};
+
+// The smallest sample.
+const LARGE: Run<'static> = Run {
+    words: &["large", "8", "2", "0"],
+    said: "large 8 period 1 tables 8 registers 1 drops 0 accepted\n",
+    out: NOTHING,
+    ..MAP_TOGGLE
+};
+
+// Two levels of gates behind inputs and before a register.
+const BACK: &str =
+    ".model back\n.inputs a b c d\n.outputs y\n.latch g3 y 0\n.names a b g1\n11 1\n.names c d g2\n11 1\n.names g1 g2 g3\n1- 1\n-1 1\n.end\n";
+
+const BOUND: Run<'static> = Run {
+    words: &["bound", "2", "0", "0", "t.blif"],
+    text: BACK,
+    said: "bound period 2\n",
+    out: NOTHING,
+    ..MAP_TOGGLE
 };
 
 pub const RUNS: &[Run<'static>] = &[
@@ -550,5 +651,103 @@ pub const RUNS: &[Run<'static>] = &[
         status: 5,
         said: "",
         ..SHOW_ABC
+    },
+    // CERT is written after OUT
+    CERTIFY_TOGGLE,
+    Run {
+        failing: &[1],
+        status: 4,
+        said: "cannot write o.blif\n",
+        out: NOTHING,
+        made: NOTHING,
+        ..CERTIFY_TOGGLE
+    },
+    Run {
+        failing: &[2],
+        status: 4,
+        said: "cannot write c.cert\n",
+        made: NOTHING,
+        ..CERTIFY_TOGGLE
+    },
+    Run {
+        silent: &[0],
+        status: 4,
+        said: "",
+        ..CERTIFY_TOGGLE
+    },
+    Run {
+        words: &["prime", "2", "0", "t.blif", "o.blif", "c.cert"],
+        failing: &[2],
+        status: 4,
+        said: "cannot write c.cert\n",
+        made: NOTHING,
+        ..CERTIFY_TOGGLE
+    },
+    // each read of three fails
+    CHECK_TWIN,
+    Run {
+        failing: &[0],
+        status: 3,
+        said: "cannot read t.blif\n",
+        ..CHECK_TWIN
+    },
+    Run {
+        failing: &[1],
+        status: 3,
+        said: "cannot read o.blif\n",
+        ..CHECK_TWIN
+    },
+    Run {
+        failing: &[2],
+        status: 3,
+        said: "cannot read c.cert\n",
+        ..CHECK_TWIN
+    },
+    // a sample calls no store
+    LARGE,
+    Run {
+        failing: &[0, 1, 2],
+        ..LARGE
+    },
+    Run {
+        silent: &[0],
+        status: 4,
+        said: "",
+        ..LARGE
+    },
+    // registers may move backward
+    BOUND,
+    Run {
+        words: &["bound", "2", "8", "0", "t.blif"],
+        ..BOUND
+    },
+    Run {
+        words: &["bound", "2", "0", "1", "t.blif"],
+        said: "bound period 1\n",
+        ..BOUND
+    },
+    Run {
+        words: &["bound", "2", "8", "8", "t.blif"],
+        text: RING3,
+        said: "bound period 3\n",
+        ..BOUND
+    },
+    Run {
+        text: LATE,
+        status: 5,
+        said: "t.blif: line 4: UnknownInit\n",
+        ..BOUND
+    },
+    Run {
+        failing: &[0],
+        status: 3,
+        said: "cannot read t.blif\n",
+        ..BOUND
+    },
+    Run {
+        silent: &[0],
+        status: 4,
+        said: "",
+        ..BOUND
     },
 ];

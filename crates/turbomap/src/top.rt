@@ -7,8 +7,10 @@ ghost use Rattle.turbomap.specs.Prepared.{IsReady, HasCause};
 ghost use Rattle.turbomap.specs.Run.{number, command_of, IsRun, Answers, IsToldLong, IsToldRefused, IsToldAccepted, IsFaultless};
 ghost use Rattle.turbomap.specs.Words.{seen, asked_of};
 
+use crate::bound_file::prepare_bound;
 use crate::check_files::prepare_check;
 use crate::deliver::deliver;
+use crate::large::make_large;
 use crate::line::BAD_WORDS;
 use crate::map_file::prepare_map;
 use crate::reading::Reading;
@@ -104,5 +106,7 @@ fn prepare<'a, S: Store>(
         Reading::Check(words) => prepare_check(alloc, words, store),
         Reading::Sim(words) => prepare_sim(alloc, words, store),
         Reading::Show(input) => prepare_show(alloc, input, store),
+        Reading::Large(words) => make_large(alloc, words),
+        Reading::Bound(words) => prepare_bound(alloc, words, store),
     }
 }
