@@ -30,7 +30,7 @@ map_and_compare() {
 }
 
 for design in gray_counter serial_sender; do
-    "$yosys" -q -p "read_verilog tests/interop/$design.v; synth -flatten -top $design; dfflegalize -cell \$_DFF_P_ 01; abc -g simple; opt_clean -purge; autoname; write_blif $folder/$design.blif" ||
+    "$yosys" -q -p "read_verilog tests/interop/$design.v; synth -flatten -top $design; dfflegalize -cell \$_DFF_P_ 01; abc -g simple; opt_clean -purge; rename -enumerate; write_blif $folder/$design.blif" ||
         fail "yosys ends with an error on $design"
     map_and_compare "$folder/$design.blif" "$folder/$design.out.blif"
     "$abc" -c "read_blif $folder/$design.blif; strash; write_blif $folder/$design.abc.blif" >/dev/null 2>&1

@@ -1,24 +1,6 @@
 #!/usr/bin/env bash
 # The launcher on the examples: the line that is said, the text of the first command of the README, and a refusal.
-# Skips where the program isn't built yet; `rt ci` leaves it built.
-cd "$(dirname "$0")/../.." || exit 1
-
-if [ ! -x crates/turbomap/out/turbomap ]; then
-    echo "launcher: skipped, the program isn't built"
-    exit 0
-fi
-
-folder=$(mktemp -d)
-trap 'rm -rf "$folder"' EXIT
-failed=0
-
-expect() {
-    local what=$1 wanted=$2 got=$3
-    if [ "$wanted" != "$got" ]; then
-        printf 'launcher: %s: wanted %s, got %s\n' "$what" "$wanted" "$got"
-        failed=1
-    fi
-}
+. "$(dirname "$0")/../expect.sh" launcher
 
 said() {
     expect "map $1 $2 of $3" "$4" "$(./turbomap map "$1" "$2" "examples/$3.blif" "$folder/$3.blif")"
@@ -43,6 +25,16 @@ widest 2
 period 1
 chain d
 slack d 0" "$(./turbomap show examples/toggle.blif)"
+
+expect "a bound" "bound period 1" "$(./turbomap bound 2 1 0 examples/two_levels.blif)"
+expect "prime rows" "period 1 tables 1 registers 5" "$(./turbomap prime 4 0 examples/two_levels.blif "$folder/prime.blif")"
+expect "rows of the one table" "11-- 1 --11 1" "$(grep '^[01-]* 1$' "$folder/prime.blif" | tr '\n' ' ' | sed 's/ $//')"
+
+# As many signals as a text may have, and one more.
+{ echo -n .inputs; seq -f ' i%g' -s '' 100000; } >"$folder/many.blif"
+expect "100,000 signals" "period 0 tables 0 registers 0" "$(./turbomap map 2 0 "$folder/many.blif" "$folder/many.out.blif")"
+echo .latch i1 l 0 >>"$folder/many.blif"
+expect "one more" "$folder/many.blif: line 0: TooManySignals" "$(./turbomap map 2 0 "$folder/many.blif" "$folder/many.out.blif")"
 
 # File names are those of the caller's folder.
 here=$PWD

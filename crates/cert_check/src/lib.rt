@@ -6,8 +6,6 @@
 mod agreement;
 mod checking;
 pub mod laws;
-#[cfg(test)]
-mod tests;
 mod verdict;
 
 pub use checking::check;

@@ -9,6 +9,3 @@ mod primes;
 mod sets;
 
 pub use primes::prime;
-
-#[cfg(test)]
-mod tests;

@@ -5,8 +5,6 @@
 mod cone;
 mod covers;
 mod nodes;
-#[cfg(test)]
-mod tests;
 mod values;
 mod words;
 

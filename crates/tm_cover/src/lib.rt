@@ -4,8 +4,6 @@
 
 mod chosen;
 pub mod laws;
-#[cfg(test)]
-mod tests;
 mod wanted;
 
 pub use chosen::{choose, choose_from};

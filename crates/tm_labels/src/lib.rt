@@ -13,8 +13,6 @@ mod order;
 mod queue;
 mod settled;
 mod settling;
-#[cfg(test)]
-mod tests;
 mod watcher;
 mod work;
 

@@ -7,6 +7,3 @@ mod make;
 mod parts;
 
 pub use make::sample;
-
-#[cfg(test)]
-mod tests;

@@ -8,7 +8,5 @@ mod net;
 mod numbers;
 mod parts;
 mod plan;
-#[cfg(test)]
-mod tests;
 
 pub use net::mapped;

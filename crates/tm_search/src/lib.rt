@@ -4,7 +4,5 @@
 
 pub mod laws;
 mod least;
-#[cfg(test)]
-mod tests;
 
 pub use least::{Least, least_for_outputs, least_period};

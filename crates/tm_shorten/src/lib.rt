@@ -6,7 +6,5 @@
 mod marking;
 mod parts;
 mod shorter;
-#[cfg(test)]
-mod tests;
 
 pub use shorter::shorten;

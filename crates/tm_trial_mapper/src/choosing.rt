@@ -1,12 +1,12 @@
 // Mappings chosen for two gates over two latches each and a gate over both, with a latch behind it.
 
-use crate::choose;
 use smallvec::SmallVec;
 use std::alloc::Global;
 use std::process::Abort;
 use std::test::Fail;
 use tm_bits::Cover;
 use tm_circuit::{Circuit, GatePart, LatchPart, Name, Parts, Signal};
+use tm_cover::choose;
 use tm_labels::settle;
 use tm_replay::have_lost;
 use tm_unroll::Mapping;

@@ -2,12 +2,12 @@
 
 ghost use Rattle.tm_unroll.specs.Mappings.{tables_of, IsLawful};
 
-use crate::table_of;
 use smallvec::SmallVec;
 use std::alloc::Global;
 use std::test::Fail;
 use tm_bits::{Cover, NoMemory, Place, Row};
 use tm_circuit::{Circuit, GatePart, LatchPart, Name, Parts, Signal};
+use tm_cone::table_of;
 use tm_unroll::{Lut, Mapping, Node, lawful};
 
 /// A gate with one row, spelled by `0`, `1` and `-`.

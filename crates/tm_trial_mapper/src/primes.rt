@@ -3,7 +3,7 @@
 ghost use Rattle.std.specs.Prelude.{◌≡◌, ◌≤◌};
 ghost use Rattle.tm_bits.specs.declared.TheConstants.{MOST_K};
 
-use crate::prime;
+use prime_cover::prime;
 use std::alloc::{AllocError, Global};
 use std::test::Fail;
 use tm_bits::{Cover, Place, Table};

@@ -3,7 +3,7 @@
 ghost use Rattle.std.specs.Prelude.{IsTrue};
 ghost use Rattle.tm_parts.specs.Fits.{FitsMapping};
 
-use crate::{Verdict, Why, check};
+use cert_check::{Verdict, Why, check};
 use cert_text::{Cert, read};
 use std::alloc::Global;
 use std::test::Fail;

@@ -1,6 +1,5 @@
 // Drops that refute a target, with some that the refutation does not stand on.
 
-use crate::shorten;
 use smallvec::SmallVec;
 use std::alloc::{AllocError, Global};
 use std::process::Abort;
@@ -8,6 +7,7 @@ use std::test::Fail;
 use tm_bits::{Cover, NoMemory};
 use tm_circuit::{Circuit, GatePart, LatchPart, Name, Parts, Signal};
 use tm_replay::{Lowering, Replayed, have_lost, replay};
+use tm_shorten::shorten;
 
 /// A circuit with one output, its signals by their numbers, and drops that refute a target for tables of two leaves, as lines of a
 /// certificate. Those that are not needed begin with a `-`.

@@ -1,12 +1,12 @@
 // Settlings of small circuits, whose labels are counted by hand, and the drops and the turns of some.
 
-use crate::{Settled, Work, settle, settle_outputs};
 use smallvec::SmallVec;
 use std::alloc::Global;
 use std::process::Abort;
 use std::test::Fail;
 use tm_bits::{Cover, NoMemory};
 use tm_circuit::{Circuit, GatePart, LatchPart, Name, Parts, Signal};
+use tm_labels::{Settled, Work, settle, settle_outputs};
 use tm_replay::{Label, Replayed, have_lost, replay};
 
 /// A circuit with one output, its signals by their numbers, and what its labels for a target come to.

@@ -5,12 +5,12 @@ ghost use Rattle.tm_bits.specs.Limits.{most_inputs};
 ghost use Rattle.tm_circuit.specs.Plain.{widest};
 ghost use Rattle.tm_parts.specs.Fits.{FitsMapping};
 
-use crate::mapped;
 use smallvec::SmallVec;
 use std::alloc::Global;
 use std::test::Fail;
 use tm_bits::{Cover, Place, Row};
 use tm_circuit::{Circuit, Clock, Driver, Edge, GatePart, LatchPart, Name, Parts, Signal};
+use tm_net::mapped;
 use tm_parts::{has_names_within, laws, name_of};
 use tm_unroll::{Lut, Mapping, Node, lawful};
 

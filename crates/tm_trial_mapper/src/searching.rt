@@ -1,12 +1,12 @@
 // Least periods of two gates over two latches each and a gate over both, with a latch behind it.
 
-use crate::{least_for_outputs, least_period};
 use smallvec::SmallVec;
 use std::alloc::Global;
 use std::process::Abort;
 use std::test::Fail;
 use tm_bits::Cover;
 use tm_circuit::{Circuit, GatePart, LatchPart, Name, Parts, Signal};
+use tm_search::{least_for_outputs, least_period};
 
 fn name(alloc: Global, word: &str) -> Result<Name, Fail> {
     Ok(Name::new(Vec::from_slice(alloc, word.as_bytes())?))

@@ -1,7 +1,7 @@
 // The sample of the least number, byte for byte.
 
-use crate::sample;
 use std::test::Fail;
+use tm_make::sample;
 
 const SAMPLE_OF_8: &str = "\
 .model sample

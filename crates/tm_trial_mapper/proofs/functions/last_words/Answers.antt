@@ -6,7 +6,7 @@ use Rattle.tm_circuit.proofs.ListLemmas.{contains-map}
 use Rattle.tm_unroll.specs.declared.node.Lut.{Lut}
 use Rattle.tm_unroll.specs.Mappings.{table_of, IsLawful, IsLawfulTable}
 use Rattle.tm_unroll.proofs.ListLemmas.{contains-at}
-use Rattle.tm_cone.proofs.tests.last_words.Goals as goal
+use Rattle.tm_trial_mapper.proofs.functions.last_words.Goals as goal
 
 lawful_at : (c : Plain) (luts slice : List Lut) (lut : Lut) → IsLawful c 8 1 (map table_of luts) → slice ≡ luts → slice_get slice (length slice - 1) ≡ Some lut
     → IsLawfulTable 0 c.drives 8 1 (map table_of luts) (table_of lut)
