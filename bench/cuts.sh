@@ -13,9 +13,7 @@
 set -eu
 . "$(dirname "$0")/repository.sh"
 repository tm_bits tm_flow
-echo "cuts: tm_flow tm_bits" >>crates.txt
-bench=$PWD/crates/cuts
-mkdir -p "$bench/src" "$bench/specs" "$bench/proofs"
+program_crate cuts tm_flow tm_bits
 
 cat >"$bench/specs/Lib.antt" <<'END'
 pub mod Layers

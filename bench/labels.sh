@@ -12,11 +12,8 @@
 set -eu
 . "$(dirname "$0")/repository.sh"
 repository tm_bits tm_circuit tm_flow tm_unroll tm_replay tm_merge tm_inherit tm_labels tm_cover tm_search
-echo "label_times: tm_bits tm_circuit tm_unroll tm_replay tm_merge tm_labels tm_search smallvec" >>crates.txt
-bench=$PWD/crates/label_times
-mkdir -p "$bench/src" "$bench/specs" "$bench/proofs"
-: >"$bench/specs/Lib.antt"
-: >"$bench/proofs/Lib.antt"
+program_crate label_times tm_bits tm_circuit tm_unroll tm_replay tm_merge tm_labels tm_search smallvec
+naming_module
 
 cat >"$bench/src/main.rt" <<'END'
 //! Times settlings of sample circuits and of loops.
@@ -25,6 +22,7 @@ cat >"$bench/src/main.rt" <<'END'
 #![tactic(auto)]
 
 mod circuits;
+mod naming;
 
 use circuits::{looped, sample};
 use std::alloc::Global;
@@ -158,21 +156,11 @@ END
 cat >"$bench/src/circuits.rt" <<'END'
 // Circuits to be settled.
 
+use crate::naming::name;
 use smallvec::SmallVec;
 use std::alloc::{AllocError, Global};
 use tm_bits::{Cover, NoMemory};
 use tm_circuit::{Circuit, GatePart, LatchPart, Name, Parts, Signal};
-
-/// The name of a signal: letters for the digits of its number.
-fn name(alloc: Global, number: u32) -> Result<Name, AllocError> {
-    let mut bytes = Vec::new(alloc);
-    let mut left = number;
-    for _ in 0..6u32 {
-        bytes.push(b'a' + (left % 26) as u8)?;
-        left /= 26;
-    }
-    Ok(Name::new(bytes))
-}
 
 fn names(alloc: Global, count: u32) -> Result<Vec<Name>, AllocError> {
     let mut names = Vec::new(alloc);

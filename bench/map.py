@@ -1,11 +1,12 @@
 #!/usr/bin/env python3
-"""Times `map` on sample texts, on a large random circuit, and on designs of several kinds beside ABC's mapper.
+"""Times `map` and `check` on sample texts, on a large random circuit, on designs of several kinds beside ABC's mapper, and on loops.
 
 Run by hand, outside the gate, after the launcher has built the program:
     python3 bench/map.py [RUNS]
 Each figure is the least processor time of RUNS runs (5 unless given). Samples are timed as ratios to `show` on the same text; the
 designs of bench/designs, which Yosys makes into gates, as ratios to ABC's `strash; if -K` on the text that ABC writes of them, so
-that both map the same gates. Without Yosys or ABC the designs are left out.
+that both map the same gates. Without Yosys or ABC the designs are left out. `check` is timed as a ratio to `map` with the
+certificate on the same files. The certificate of a loop is large: `check` of it is timed as a ratio to `wc -w` on it.
 """
 
 import glob
@@ -17,11 +18,12 @@ import subprocess
 import tempfile
 
 from first_path import random_circuit
-from timing import PROGRAM, TOP, processor_seconds, runs_wanted, seconds
+from timing import PROGRAM, TOP, measured, processor_seconds, runs_wanted, seconds
 
 SIZES = [1_000, 2_000, 5_000, 10_000, 20_000]
 SETTINGS = [(4, 0), (4, 2), (4, 8), (6, 0), (6, 2), (6, 8)]
 DESIGN_SETTINGS = [(4, 0), (4, 8), (6, 0), (6, 8)]
+LOOPS = [100, 200, 400]
 SYNTHESIS = (
     "read_verilog {source}; synth -flatten -top {top}; dfflegalize -cell $_DFF_P_ 01; abc -g simple; "
     "setundef -zero -undriven; opt_clean -purge; rename -enumerate; write_blif {text}"
@@ -53,11 +55,30 @@ def choice(number, latches):
     return f"l{number - 8}" if number < 8 + latches else f"g{number - 8 - latches}"
 
 
-def said(words):
-    """The line that the program says, and the processor time of the run."""
-    begin = processor_seconds()
-    line = subprocess.run([PROGRAM, *words], check=True, stdout=subprocess.PIPE, text=True).stdout
-    return line.strip(), processor_seconds() - begin
+def whole_commands(folder, runs):
+    """`large` as a ratio to `map` and `check` on its text, and `bound` as ratios to `map`."""
+    text, out, certificate = (os.path.join(folder, name) for name in ("sample.blif", "out.blif", "certificate"))
+    with open(text, "w") as file:
+        file.write(sample(SIZES[-1]))
+    size = str(SIZES[-1])
+    parts = seconds(["map", "6", "8", text, out, certificate], runs) + seconds(["check", "6", "8", text, out, certificate], runs)
+    print(f"large {size} 6 8: {seconds(['large', size, '6', '8'], runs) / parts:.2f} of map and check on its text")
+    mapping = seconds(["map", "4", "2", text, out], runs)
+    for back in ("0", "2", "8"):
+        print(f"bound 4 2 {back}: {seconds(['bound', '4', '2', back, text], runs) / mapping:.2f} of map 4 2")
+    print()
+
+
+def looped(gates):
+    """A loop of gates with one register, each with an input of its own that comes through nine registers."""
+    lines = [".model loop", ".inputs " + " ".join(f"i{k}" for k in range(gates)), f".outputs g{gates - 1}"]
+    for gate in range(gates):
+        lines += [f".latch {f's{gate}_{step - 1}' if step else f'i{gate}'} s{gate}_{step} 0" for step in range(9)]
+    lines.append(f".latch g{gates - 1} l 0")
+    for gate in range(gates):
+        before = f"g{gate - 1}" if gate else "l"
+        lines += [f".names {before} s{gate}_8 g{gate}", "11 1"]
+    return "\n".join(lines + [".end", ""])
 
 
 def table(heads, rows):
@@ -83,6 +104,38 @@ def samples(folder, runs):
         exponent = math.log(took[-1] / took[0]) / math.log(SIZES[-1] / SIZES[0])
         rows.append([str(k), str(d), *(f"{a / b:.1f}" for a, b in zip(took, shown)), f"{exponent:.2f}"])
     table(["K", "D", *(f"{size:,}" for size in SIZES), "exponent"], rows)
+    certificates([(f"sample of {size:,}", text, SETTINGS) for size, text in zip(SIZES, texts)], folder, runs)
+
+
+def certificates(texts, folder, runs):
+    """`check` as a ratio to `map` with the certificate on the same files, and what the certificate comes to."""
+    out, certificate = os.path.join(folder, "out.blif"), os.path.join(folder, "certificate")
+    rows = []
+    for name, text, settings in texts:
+        for k, d in settings:
+            numbers = [str(k), str(d)]
+            mapping = seconds(["map", *numbers, text, out, certificate], runs)
+            checking = seconds(["check", *numbers, text, out, certificate], runs)
+            line, _, _ = measured([PROGRAM, "check", *numbers, text, out, certificate])
+            drops = re.search(r"drops (\d+)", line)[1]
+            rows.append([name, *numbers, drops, f"{os.path.getsize(certificate):,}", f"{checking / mapping:.2f}"])
+    table(["text", "K", "D", "drops", "bytes", "`check` as a ratio to `map`"], rows)
+
+
+def loops(folder):
+    """Certificates of loops, which are the largest: `check` beside `wc -w`, and its memory beside their bytes."""
+    rows = []
+    for gates in LOOPS:
+        text, out, certificate = (os.path.join(folder, f"loop-{gates}.{end}") for end in ("blif", "out.blif", "certificate"))
+        with open(text, "w") as file:
+            file.write(looped(gates))
+        line, mapping, _ = measured([PROGRAM, "map", "4", "8", text, out, certificate])
+        _, checking, memory = measured([PROGRAM, "check", "4", "8", text, out, certificate])
+        _, counting, _ = measured(["env", "LC_ALL=C", "wc", "-w", certificate])
+        size = os.path.getsize(certificate)
+        drops = re.search(r"drops (\d+)", measured([PROGRAM, "check", "4", "8", text, out, certificate])[0])[1]
+        rows.append([str(gates), line, drops, f"{size:,}", f"{checking / mapping:.2f}", f"{checking / counting:.1f}", f"{memory / size:.1f}"])
+    table(["loop of", "said", "drops", "bytes", "`check` to `map`", "`check` to `wc -w`", "memory to bytes"], rows)
 
 
 def large(folder):
@@ -90,11 +143,8 @@ def large(folder):
     text = os.path.join(folder, "large.blif")
     with open(text, "w") as file:
         file.write(random_circuit(100_000))
-    words = ["/usr/bin/time", "-v", PROGRAM, "map", "6", "2", text, os.path.join(folder, "out.blif")]
-    begin = processor_seconds()
-    ran = subprocess.run(words, check=True, stdout=subprocess.PIPE, stderr=subprocess.PIPE, text=True)
-    memory = int(re.search(r"Maximum resident set size \(kbytes\): (\d+)", ran.stderr)[1])
-    print(f"100,000 signals, K 6, D 2: {processor_seconds() - begin:.1f} s, {memory // 1000} MB, {ran.stdout.strip()}\n")
+    line, took, memory = measured([PROGRAM, "map", "6", "2", text, os.path.join(folder, "out.blif")])
+    print(f"100,000 signals, K 6, D 2: {took:.1f} s, {memory // 1_000_000} MB, {line}\n")
 
 
 def abc_seconds(abc, script, runs):
@@ -112,27 +162,31 @@ def designs(folder, runs):
     if not yosys or not abc:
         print("designs: skipped, they want yosys and berkeley-abc")
         return
-    rows = []
+    rows, texts = [], []
     for source in sorted(glob.glob(os.path.join(TOP, "bench", "designs", "*.v"))):
         top = os.path.splitext(os.path.basename(source))[0]
         gates, text, out = (os.path.join(folder, f"{top}{end}") for end in (".gates.blif", ".blif", ".out.blif"))
         subprocess.run([yosys, "-q", "-p", SYNTHESIS.format(source=source, top=top, text=gates)], check=True)
         subprocess.run([abc, "-c", f"read_blif {gates}; strash; write_blif {text}"], check=True, stdout=subprocess.DEVNULL)
+        texts.append((top, text, DESIGN_SETTINGS))
         for k, d in DESIGN_SETTINGS:
-            line, _ = said(["map", str(k), str(d), text, out])
+            line, _, _ = measured([PROGRAM, "map", str(k), str(d), text, out])
             took = seconds(["map", str(k), str(d), text, out], runs)
             theirs, told = abc_seconds(abc, f"read_blif {text}; strash; if -K {k}; print_stats; write_blif {out}", runs)
             depth = re.search(r"lev\s*=\s*(\d+)", told)
             rows.append([top, str(k), str(d), line, depth[1] if depth else "?", f"{took / theirs:.2f}"])
     table(["design", "K", "D", "said", "ABC's levels at D 0", "time as a ratio to ABC's"], rows)
+    certificates(texts, folder, runs)
 
 
 def main():
     runs = runs_wanted()
     with tempfile.TemporaryDirectory() as folder:
         samples(folder, runs)
+        whole_commands(folder, runs)
         large(folder)
         designs(folder, runs)
+        loops(folder)
 
 
 if __name__ == "__main__":

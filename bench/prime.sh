@@ -13,11 +13,8 @@
 set -eu
 . "$(dirname "$0")/repository.sh"
 repository tm_bits prime_cover
-echo "prime_times: tm_bits prime_cover" >>crates.txt
-bench=$PWD/crates/prime_times
-mkdir -p "$bench/src" "$bench/specs" "$bench/proofs/random_table"
-: >"$bench/specs/Lib.antt"
-: >"$bench/proofs/Lib.antt"
+program_crate prime_times tm_bits prime_cover
+mkdir -p "$bench/proofs/random_table"
 
 cat >"$bench/proofs/random_table/Invariants.antt" <<'END'
 use Rattle.std.proofs.Common.{◌≡◌}

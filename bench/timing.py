@@ -25,6 +25,18 @@ def seconds(words, runs):
     return best
 
 
+def measured(words):
+    """One run with these words: the line that it says, its processor time in seconds and its greatest memory in bytes."""
+    run = subprocess.Popen(words, stdout=subprocess.PIPE, text=True)
+    line = run.stdout.read().strip()
+    _, status, used = os.wait4(run.pid, 0)
+    run.returncode = os.waitstatus_to_exitcode(status)
+    run.stdout.close()
+    if run.returncode != 0:
+        raise subprocess.CalledProcessError(run.returncode, words, line)
+    return line, used.ru_utime + used.ru_stime, used.ru_maxrss * 1024
+
+
 def runs_wanted():
     """The number of runs that the command line asks for, 5 unless given; ends where the program isn't built."""
     if not os.path.exists(PROGRAM):

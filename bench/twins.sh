@@ -10,11 +10,8 @@
 set -eu
 . "$(dirname "$0")/repository.sh"
 repository tm_bits tm_circuit tm_twins
-echo "twin_times: tm_bits tm_circuit tm_twins" >>crates.txt
-bench=$PWD/crates/twin_times
-mkdir -p "$bench/src" "$bench/specs" "$bench/proofs"
-: >"$bench/specs/Lib.antt"
-: >"$bench/proofs/Lib.antt"
+program_crate twin_times tm_bits tm_circuit tm_twins
+naming_module
 
 cat >"$bench/src/main.rt" <<'END'
 //! Times `twins` and `joined` on circuits of many latches.
@@ -22,11 +19,14 @@ cat >"$bench/src/main.rt" <<'END'
 //! and how many nanoseconds each of the two calls takes for a latch.
 #![tactic(auto)]
 
+mod naming;
+
+use naming::name;
 use std::alloc::{AllocError, Global};
 use std::io;
 use std::rt::Clock;
 use std::time::Instant;
-use tm_circuit::{Circuit, LatchPart, Name, Parts, Signal};
+use tm_circuit::{Circuit, LatchPart, Parts, Signal};
 use tm_twins::{joined, twins};
 
 /// How the latches take one another.
@@ -38,17 +38,6 @@ enum Shape {
     Down,
     /// Each takes the input.
     Equal,
-}
-
-/// The name of a signal: letters for the digits of its number.
-fn name(alloc: Global, number: u32) -> Result<Name, AllocError> {
-    let mut bytes = Vec::new(alloc);
-    let mut left = number;
-    for _ in 0..6u32 {
-        bytes.push(b'a' + (left % 26) as u8)?;
-        left /= 26;
-    }
-    Ok(Name::new(bytes))
 }
 
 /// The circuit of one input and so many latches.
