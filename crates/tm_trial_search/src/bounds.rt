@@ -202,6 +202,27 @@ const GROUPS: &[Group<'static>] = &[
             period: 2,
         }],
     },
+    // The second gate feeds the loop and, through a latch of its own, the output: no move helps the loop.
+    Group {
+        inputs: "a b",
+        latches: "q 5;y 5;",
+        gates: "g 2 0;h 4 1;",
+        outputs: "3",
+        rows: &[
+            Row {
+                k: 2,
+                d: 8,
+                b: 8,
+                period: 2,
+            },
+            Row {
+                k: 3,
+                d: 0,
+                b: 0,
+                period: 1,
+            },
+        ],
+    },
     // The first latch behind the second gate is the output.
     Group {
         inputs: "a b",
