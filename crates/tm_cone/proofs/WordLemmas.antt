@@ -1,29 +1,13 @@
--- Bits of four words, one word after another.
-use Rattle.std.proofs.Common.{◌≡◌, ℕ, zero, suc, ◌-◌, ◌/◌, ◌%◌, ◌^◌, ◌<◌, Bool, true, false, not, ◌&&◌, ◌||◌, eqb, min, max, bit_and, bit_or, w64, List, [], ◌∷◌, get_or, refl, sym, ap, subst, ◌∙◌, arith, inl, inr}
+-- Bits of four lanes, one lane after another.
+use Rattle.std.proofs.Common.{◌≡◌, ℕ, zero, suc, ◌-◌, ◌/◌, ◌%◌, ◌<◌, Bool, true, false, not, ◌&&◌, ◌||◌, eqb, min, max, bit_and, bit_or, Fits, w64, List, [], ◌∷◌, map, length, get_or, refl, sym, ap, subst, ◌∙◌, arith, inl, inr}
 use Rattle.std.specs.Int.{bit_at, bit_not}
 use Rattle.std.proofs.lemmas.Nat.Bits.{bit_at_and, bit_at_or, bit_at_not, bit_at-lt}
+use Rattle.std.specs.Simd.Lanes.{Each1, zip2}
+use Rattle.std.proofs.lemmas.Simd.{get_or-zip2, Each1-get_or}
+use Rattle.std.proofs.lemmas.List.{get_or-map}
 use Rattle.std.proofs.lemmas.Bool.{cases_lt}
 use Rattle.tm_bits.specs.Tables.{bit_of}
 use Rattle.tm_cone.specs.Values.{HaveBits}
-
--- One of four words has the bits of a function on its rows.
-pub record IsWord (bit : ℕ → Bool) (index word : ℕ) : Type 0 where
-  pub each : (row : ℕ) → row / 64 ≡ index → eqb (bit_at word (row % 64)) 1 ≡ bit row
-
--- Four words have the bits of a function, where each has.
-pub by_words : (a b c d : ℕ) (bit : ℕ → Bool) → IsWord bit 0 a → IsWord bit 1 b → IsWord bit 2 c → IsWord bit 3 d → HaveBits (a ∷ b ∷ c ∷ d ∷ []) bit
-by_words a b c d bit at_a at_b at_c at_d = record { each = λ row low. by_index row low (row / 64) refl }
-  where
-    by_index : (row : ℕ) → row < 256 → (index : ℕ) → row / 64 ≡ index → eqb (bit_at (get_or (a ∷ b ∷ c ∷ d ∷ []) index 0) (row % 64)) 1 ≡ bit row
-    by_index row low zero here = at_a.each row here
-    by_index row low (suc zero) here = at_b.each row here
-    by_index row low (suc (suc zero)) here = at_c.each row here
-    by_index row low (suc (suc (suc zero))) here = at_d.each row here
-    by_index row low (suc (suc (suc (suc more)))) here = absurd (omega arith)
-
--- A bit of a word is that of the row that it stands for.
-bit_here : (words : List ℕ) (row index : ℕ) → row / 64 ≡ index → eqb (bit_at (get_or words index 0) (row % 64)) 1 ≡ bit_of words row
-bit_here words row index here = ap (λ i. eqb (bit_at (get_or words i 0) (row % 64)) 1) (sym here)
 
 and_bits : (m n : ℕ) → m < 2 → n < 2 → eqb (min m n) 1 ≡ (eqb m 1 && eqb n 1)
 and_bits zero zero m n = refl
@@ -48,33 +32,36 @@ not_bit zero h = refl
 not_bit (suc zero) h = refl
 not_bit (suc (suc m)) h = absurd (omega arith)
 
-pub word_and : (one other : List ℕ) (index : ℕ) → IsWord (λ row. bit_of one row && bit_of other row) index (bit_and (get_or one index 0) (get_or other index 0))
-word_and one other index = record {
-  each = λ row here.
-      let x = get_or one index 0 in
-      let y = get_or other index 0 in
+-- Lanes that are worked out of two vectors lane by lane have on each row what the bits of both come to.
+zip_bits : (f : ℕ → ℕ → ℕ) (g : Bool → Bool → Bool) (one other : List ℕ)
+    → ((x y p : ℕ) → eqb (bit_at (f x y) p) 1 ≡ g (eqb (bit_at x p) 1) (eqb (bit_at y p) 1))
+    → length one ≡ 4 → length other ≡ 4 → HaveBits (zip2 f one other) (λ row. g (bit_of one row) (bit_of other row))
+zip_bits f g one other each long other_long = record {
+  each = λ row low.
+      let lane = row / 64 in
       let p = row % 64 in
-      ap (λ n. eqb n 1) (bit_at_and x y p) ∙ and_bits (bit_at x p) (bit_at y p) (bit_at-lt x p) (bit_at-lt y p)
-      ∙ ap (λ b. b && eqb (bit_at y p) 1) (bit_here one row index here) ∙ ap (λ b. bit_of one row && b) (bit_here other row index here);
+      ap (λ w. eqb (bit_at w p) 1) (get_or-zip2 f one other lane 0 0 0 (omega arith) (omega arith)) ∙ each (get_or one lane 0) (get_or other lane 0) p;
 }
 
-pub word_or : (one other : List ℕ) (index : ℕ) → IsWord (λ row. bit_of one row || bit_of other row) index (bit_or (get_or one index 0) (get_or other index 0))
-word_or one other index = record {
-  each = λ row here.
-      let x = get_or one index 0 in
-      let y = get_or other index 0 in
-      let p = row % 64 in
-      ap (λ n. eqb n 1) (bit_at_or x y p) ∙ or_bits (bit_at x p) (bit_at y p) (bit_at-lt x p) (bit_at-lt y p)
-      ∙ ap (λ b. b || eqb (bit_at y p) 1) (bit_here one row index here) ∙ ap (λ b. bit_of one row || b) (bit_here other row index here);
-}
+pub lanes_and : (one other : List ℕ) → length one ≡ 4 → length other ≡ 4 → HaveBits (zip2 bit_and one other) (λ row. bit_of one row && bit_of other row)
+lanes_and one other =
+    zip_bits bit_and (λ a b. a && b) one other
+    (λ x y p. ap (λ n. eqb n 1) (bit_at_and x y p) ∙ and_bits (bit_at x p) (bit_at y p) (bit_at-lt x p) (bit_at-lt y p))
 
-pub word_not : (words : List ℕ) (index : ℕ) → get_or words index 0 < 2 ^ 64 → IsWord (λ row. not (bit_of words row)) index (bit_not w64 (get_or words index 0))
-word_not words index fits = record {
-  each = λ row here.
-      let x = get_or words index 0 in
+pub lanes_or : (one other : List ℕ) → length one ≡ 4 → length other ≡ 4 → HaveBits (zip2 bit_or one other) (λ row. bit_of one row || bit_of other row)
+lanes_or one other =
+    zip_bits bit_or (λ a b. a || b) one other
+    (λ x y p. ap (λ n. eqb n 1) (bit_at_or x y p) ∙ or_bits (bit_at x p) (bit_at y p) (bit_at-lt x p) (bit_at-lt y p))
+
+pub lanes_not : (lanes : List ℕ) → length lanes ≡ 4 → Each1 (Fits w64) lanes → HaveBits (map (bit_not w64) lanes) (λ row. not (bit_of lanes row))
+lanes_not lanes long fit = record {
+  each = λ row low.
+      let lane = row / 64 in
       let p = row % 64 in
-      ap (λ n. eqb n 1) (bit_at_not w64 x p fits (omega arith)) ∙ not_bit (bit_at x p) (bit_at-lt x p)
-      ∙ ap (λ b. not b) (bit_here words row index here);
+      let x = get_or lanes lane 0 in
+      let fits = Each1-get_or (Fits w64) lanes lane 0 (omega arith) fit in
+      ap (λ w. eqb (bit_at w p) 1) (get_or-map (bit_not w64) lanes lane 0 0 (omega arith)) ∙ ap (λ n. eqb n 1) (bit_at_not w64 x p fits.fits (omega arith))
+      ∙ not_bit (bit_at x p) (bit_at-lt x p);
 }
 
 same_bit : Bool → Bool → Bool

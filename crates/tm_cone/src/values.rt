@@ -7,9 +7,9 @@ ghost use Rattle.tm_unroll.specs.Nodes.{node_at, reads, is_end};
 ghost use Rattle.tm_cone.specs.Cones.{asked_of};
 ghost use Rattle.tm_cone.specs.Values.{HaveBits, HasWordsFor, AreValues, IsInOrder, bits_on, words_in};
 
-use crate::covers::cover_words;
+use crate::covers::cover_lanes;
 use crate::nodes::Step;
-use crate::words::{Words, place_words};
+use crate::words::{Lanes, Words, place_words};
 use indexmap::IndexMap;
 use smallvec::SmallVec;
 use std::alloc::Global;
@@ -69,29 +69,29 @@ fn node_words(
             Ok(values[&read])
         }
         Driver::Gate { pins, cover } => {
-            let words = pin_words(alloc, values, pins.as_slice(), node.advance)?;
-            Ok(cover_words(cover, words.as_slice()))
+            let lanes = pin_lanes(alloc, values, pins.as_slice(), node.advance)?;
+            Ok(cover_lanes(cover, lanes.as_slice()).to_array())
         }
     }
 }
 
-/// The words of some signals at one advance, in order.
-fn pin_words(
+/// The words of some signals at one advance, in order, as lanes.
+fn pin_lanes(
     alloc: Global,
     values: &IndexMap<Node, Words>,
     pins: &[Signal],
     advance: u8,
-) -> Result<SmallVec<Words, 8>, NoMemory>
+) -> Result<SmallVec<Lanes, 8>, NoMemory>
     requires { HasWordsFor values.now (map (λ p. node_at advance p) pins.now) }
-    ensures { IfOk result (λ words. words.items ≡ map (λ p. words_in values.now (node_at advance p)) pins.now) }
+    ensures { IfOk result (λ lanes. lanes.items ≡ map (λ p. words_in values.now (node_at advance p)) pins.now) }
 {
-    let mut words = SmallVec::new(alloc);
+    let mut lanes = SmallVec::new(alloc);
     for pin in pins {
         let node = Node {
             signal: *pin,
             advance,
         };
-        words.push(values[&node])?;
+        lanes.push(Lanes::from_array(values[&node]))?;
     }
-    Ok(words)
+    Ok(lanes)
 }

@@ -1,51 +1,54 @@
-// Bits on 256 rows at once, in four words as a table has them: the bit of row `r` is bit `r mod 64` of word `r / 64`.
+// Bits on 256 rows at once, in four words as a table has them: the bit of row `r` is bit `r mod 64` of word `r / 64`. They are
+// kept in arrays, and worked on as the lanes of a vector.
 
-ghost use Rattle.std.specs.Prelude.{◌≡◌, ℕ, ◌-◌, ◌^◌, ◌<◌, ◌≤◌, ◌==◌, ◌&&◌, ◌||◌, not, true};
+ghost use Rattle.std.specs.Prelude.{◌≡◌, ℕ, ◌-◌, ◌^◌, ◌<◌, ◌≤◌, ◌==◌, ◌&&◌, ◌||◌, not, false, true};
 ghost use Rattle.std.specs.Int.{bit_at};
 ghost use Rattle.tm_bits.specs.Limits.{most_inputs};
 ghost use Rattle.tm_bits.specs.Tables.{bit_of};
 ghost use Rattle.tm_cone.specs.Values.{HaveBits};
 
+use std::simd::u64x4;
 use tm_bits::Table;
 
-/// The bits of a node on 256 rows.
+/// The bits of a node on 256 rows, as they are kept.
 pub type Words = [u64; 4];
 
+/// The same, as they are worked on.
+pub type Lanes = u64x4;
+
 /// The bit 0 on all rows.
-pub const ZEROS: Words = [0; 4];
+pub fn zeros() -> Lanes
+    ensures { HaveBits result (λ row. false) }
+{
+    Lanes::splat(0)
+}
 
 /// The bit 1 on all rows.
-pub const ONES: Words = [u64::MAX; 4];
+pub fn ones() -> Lanes
+    ensures { HaveBits result (λ row. true) }
+{
+    Lanes::splat(u64::MAX)
+}
 
 /// Both bits.
-pub fn both(one: &Words, other: &Words) -> Words
-    ensures { HaveBits result (λ row. bit_of one.now row && bit_of other.now row) }
+pub fn both(one: Lanes, other: Lanes) -> Lanes
+    ensures { HaveBits result (λ row. bit_of one row && bit_of other row) }
 {
-    [
-        one[0] & other[0],
-        one[1] & other[1],
-        one[2] & other[2],
-        one[3] & other[3],
-    ]
+    one & other
 }
 
 /// Either bit.
-pub fn either(one: &Words, other: &Words) -> Words
-    ensures { HaveBits result (λ row. bit_of one.now row || bit_of other.now row) }
+pub fn either(one: Lanes, other: Lanes) -> Lanes
+    ensures { HaveBits result (λ row. bit_of one row || bit_of other row) }
 {
-    [
-        one[0] | other[0],
-        one[1] | other[1],
-        one[2] | other[2],
-        one[3] | other[3],
-    ]
+    one | other
 }
 
 /// The other bit.
-pub fn turned(words: &Words) -> Words
-    ensures { HaveBits result (λ row. not (bit_of words.now row)) }
+pub fn turned(lanes: Lanes) -> Lanes
+    ensures { HaveBits result (λ row. not (bit_of lanes row)) }
 {
-    [!words[0], !words[1], !words[2], !words[3]]
+    !lanes
 }
 
 /// The bits of a place of the row's number, the lowest being place 0.
@@ -72,6 +75,9 @@ pub fn table_with(inputs: u8, words: &Words) -> Table
     ensures values { (row : ℕ) → row < 2 ^ inputs → bit_of result.words row ≡ bit_of words.now row }
 {
     let rows = Table::constant(inputs, true);
-    let words = both(words, &rows.words);
-    Table { inputs, words }
+    let lanes = both(Lanes::from_array(*words), Lanes::from_array(rows.words));
+    Table {
+        inputs,
+        words: lanes.to_array(),
+    }
 }

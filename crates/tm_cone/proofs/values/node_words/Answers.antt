@@ -14,7 +14,7 @@ returns-in-Latch c =
     let is : drive_in c.args.circuit.now.drives c.args.node.signal ≡ latch c.in-Latch.next c.in-Latch.init = search rules in
     next_words c.args.values.now c.args.circuit.now.drives c.args.node c.in-Latch.next c.in-Latch.init c.index.result.now is c.requires.goes_on c.index.ensures
 
-pub returns-in_ok-words-in-Gate : goal.returns-in_ok-words-in-Gate
-returns-in_ok-words-in-Gate c =
+pub returns-in_ok-lanes-in-Gate : goal.returns-in_ok-lanes-in-Gate
+returns-in_ok-lanes-in-Gate c =
     let is : drive_in c.args.circuit.now.drives c.args.node.signal ≡ gate c.in-Gate.pins.items c.in-Gate.cover = search rules in
-    gate_words c.args.values.now c.args.circuit.now.drives c.args.node c.in-Gate.pins.items c.in-Gate.cover c.as_slice-in-Gate.result.now c.cover_words.result is (search rules) c.cover_words.ensures
+    gate_words c.args.values.now c.args.circuit.now.drives c.args.node c.in-Gate.pins.items c.in-Gate.cover c.as_slice-in-Gate.result.now c.cover_lanes.result is (search rules) c.cover_lanes.ensures

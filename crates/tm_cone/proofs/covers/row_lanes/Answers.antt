@@ -1,12 +1,11 @@
 -- A place and a pin are taken at a time, until there is none of one kind.
 use Rattle.std.proofs.Common.{rules}
 use Rattle.std.proofs.lemmas.Slice.Zip.{either_empty_from_Zip}
-use Rattle.tm_cone.proofs.WordLemmas.{ones}
 use Rattle.tm_cone.proofs.CoverLemmas.{agree_starts, agree_more, agree_ends}
-use Rattle.tm_cone.proofs.covers.row_words.Goals as goal
+use Rattle.tm_cone.proofs.covers.row_lanes.Goals as goal
 
 pub loop-place-init : goal.loop-place-init
-loop-place-init c = agree_starts _ _ _ _ _ (search rules) (search rules) ones
+loop-place-init c = agree_starts _ _ _ _ _ (search rules) (search rules) c.ones-all.ensures
 
 pub loop-place-preserved : goal.loop-place-preserved
 loop-place-preserved c =
