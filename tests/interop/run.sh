@@ -21,11 +21,12 @@ fail() {
     failed=1
 }
 
-# Maps a text with lags of at most so many steps, 0 unless given, and asks ABC whether the two circuits are sequentially equivalent.
+# Maps a text with lags of at most so many steps, 0 unless given, and asks ABC whether what is written and the text, or another BLIF text of
+# the same design, are sequentially equivalent.
 map_and_compare() {
-    local text=$1 mapped=$2 lags=${3:-0}
+    local text=$1 mapped=$2 lags=${3:-0} other=${4:-$1}
     "$program" map 4 "$lags" "$text" "$mapped" >"$folder/said" || { fail "$text is refused: $(cat "$folder/said")"; return; }
-    "$abc" -c "dsec $text $mapped" >"$folder/verdict" 2>&1
+    "$abc" -c "dsec $other $mapped" >"$folder/verdict" 2>&1
     grep -q 'Networks are equivalent' "$folder/verdict" || fail "$mapped isn't shown equivalent: $(tail -n 3 "$folder/verdict")"
 }
 
@@ -35,6 +36,9 @@ for design in gray_counter serial_sender; do
     map_and_compare "$folder/$design.blif" "$folder/$design.out.blif"
     "$abc" -c "read_blif $folder/$design.blif; strash; write_blif $folder/$design.abc.blif" >/dev/null 2>&1
     map_and_compare "$folder/$design.abc.blif" "$folder/$design.abc.out.blif"
+    "$yosys" -q -p "read_verilog tests/interop/$design.v; synth -flatten -top $design; dfflegalize -cell \$_DFF_P_ 01; aigmap; opt_clean -purge; write_aiger -ascii -symbols $folder/$design.aag" ||
+        fail "yosys ends with an error on $design as AIGER"
+    map_and_compare "$folder/$design.aag" "$folder/$design.aag.blif" 1 "$folder/$design.blif"
 done
 
 # A design of which registers are moved.
@@ -45,5 +49,5 @@ for lags in 0 2; do
     echo "interop: checksum with lags of at most $lags: $(cat "$folder/said")"
 done
 
-[ "$failed" -eq 0 ] && echo "interop: 6 texts passed"
+[ "$failed" -eq 0 ] && echo "interop: 8 texts passed"
 exit "$failed"

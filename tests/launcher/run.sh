@@ -13,6 +13,7 @@ said 4 0 two_levels "period 1 tables 1 registers 5"
 said 2 0 ring_of_latches "period 0 tables 0 registers 2"
 said 2 0 counter "period 1 tables 2 registers 2"
 said 3 0 traffic_light "period 1 tables 5 registers 2"
+expect "map 2 0 of an AIGER text" "period 1 tables 2 registers 1" "$(./turbomap map 2 0 examples/toggle.aag "$folder/toggle.aag.blif")"
 
 expect "text of toggle" "$(grep -v '^#' examples/toggle.blif | sed 's/^10 1$/x/; s/^01 1$/10 1/; s/^x$/01 1/')" "$(cat "$folder/toggle.blif")"
 

@@ -14,12 +14,13 @@ use Rattle.cert_check.specs.declared.verdict.Verdict.TheVariants.{Yes, No}
 use Rattle.cert_check.proofs.VerdictLemmas.{one_verdict_lem}
 use Rattle.tm_texts.specs.Limits.{source_limits, mapped_limits}
 use Rattle.tm_texts.specs.Sources.{Blame, fault, too_large, IsMappable, IsBlamed}
+use Rattle.tm_texts.proofs.InputLemmas.{same_input}
 use Rattle.tm_texts.specs.Checks.{AreAccepted, AreAcceptable, IsNotAccepted}
 
 -- a text that can be mapped is not blamed
 pub mappable_blamed : (k : ℕ) (blame : Blame) (text : List ℕ) → IsBlamed k text blame → IsMappable k text → ⊥
 mappable_blamed k (fault line kind) text blamed mappable = blamed.none mappable.circuit mappable.of_text
-mappable_blamed k too_large text blamed mappable =
+mappable_blamed k (too_large kind) text blamed mappable =
     let few : length (subject_of k blamed.circuit).drives ≤ most_subject_signals
     = subst (λ (c : Plain). length (subject_of k c).drives ≤ most_subject_signals) (blamed.only mappable.circuit mappable.of_text) mappable.few in
     omega (arith, few, blamed.many)
@@ -51,7 +52,7 @@ accepted_acceptable k d source mapped cert period drops are = record {
 pub acceptable_fails : (k d : ℕ) (source mapped cert : List ℕ) (entry : ℕ) (why : Why) → 1 ≤ k → AreAcceptable k d source mapped cert
     → IsNotAccepted k d source mapped cert entry why → ⊥
 acceptable_fails k d source mapped cert entry why some are fails =
-    let same = same_circuit source_limits source fails.circuit are.circuit fails.are.of_source are.are.of_source in
+    let same = same_input source_limits source fails.circuit are.circuit fails.are.of_source are.are.of_source in
     let claimed = same_circuit mapped_limits mapped fails.claimed are.claimed fails.are.of_mapped are.are.of_mapped in
     let certificate = one_certificate cert fails.certificate are.certificate fails.are.of_cert are.are.of_cert in
     let first : IsFirstFailure (subject_of k are.circuit) are.claimed are.certificate k d entry why

@@ -2,11 +2,11 @@
 use Rattle.std.proofs.Common.{ℕ, List, refl}
 use Rattle.tm_circuit.specs.Plain.{Plain}
 use Rattle.tm_circuit.specs.Sound.{IsSound}
-use Rattle.blif_read.specs.Text.{IsCircuitOf}
-use Rattle.blif_read.proofs.SomeCircuit.{same_circuit}
+use Rattle.text_read.specs.Texts.{IsCircuitOf}
 use Rattle.tm_texts.specs.declared.source.MapFault.{MapFault}
 use Rattle.tm_texts.specs.declared.source.MapFault.TheVariants as source_fault
 use Rattle.tm_texts.specs.Limits.{source_limits}
+use Rattle.tm_texts.proofs.InputLemmas.{same_input}
 use Rattle.tm_texts.specs.Sources.{fault, too_large, IsSubjectOf, IsMapFault, IsReadFault, IsSubject, IsSplitFault}
 
 pub subject_of : (k : ℕ) (text : List ℕ) (source subject : Plain) → IsCircuitOf source_limits text source → IsSound source → IsSubject k source subject
@@ -23,17 +23,18 @@ subject_of k text source subject of_text sound split = record {
   fits = split.fits;
 }
 
-pub split_fault : (k : ℕ) (text : List ℕ) (source : Plain) (why : MapFault) → IsCircuitOf source_limits text source → IsSplitFault k source why
+pub split_fault : (k : ℕ) (text : List ℕ) (source : Plain) (why : MapFault) → IsCircuitOf source_limits text source → IsSplitFault k text source why
     → IsMapFault k text why
 split_fault k text source (source_fault.Text line kind) of_text why = record {
-  blame = too_large;
+  blame = too_large kind;
   blamed = record {
     circuit = source;
     of_text = of_text;
-    only = λ c of_c. same_circuit source_limits text c source of_c of_text;
+    only = λ c of_c. same_input source_limits text c source of_c of_text;
     many = why.many;
+    kind_is = why.kind_is;
   };
-  said = rw (why.line_is, why.kind_is) refl;
+  said = rw why.line_is refl;
 }
 split_fault k text source source_fault.NoMemory of_text why = tt
 

@@ -2,7 +2,7 @@
 use Rattle.std.specs.Prelude.{◌≡◌, ℕ, ◌≤◌, List, length}
 use Rattle.tm_circuit.specs.Plain.{Plain}
 use Rattle.tm_circuit.specs.Sound.{IsSound}
-use Rattle.blif_read.specs.Text.{IsCircuitOf}
+use Rattle.text_read.specs.Texts.{IsCircuitOf}
 use Rattle.tm_split.specs.Limits.{most_subject_signals}
 use Rattle.tm_split.specs.Subject.{subject_of}
 use Rattle.tm_twins.specs.Joined.{IsJoined}

@@ -6,6 +6,7 @@ use Rattle.tm_circuit.specs.Same.{IsSame}
 use Rattle.tm_circuit.specs.Sound.{IsSound}
 use Rattle.blif_read.specs.declared.fault.BlifKind.{BlifKind}
 use Rattle.blif_read.specs.Text.{IsCircuitOf, IsFaultOf}
+use Rattle.text_read.specs.Texts as input
 use Rattle.tm_split.specs.Limits.{most_subject_signals}
 use Rattle.tm_split.specs.Subject.{subject_of}
 use Rattle.cert_text.specs.declared.fault.CertKind.{CertKind}
@@ -23,7 +24,7 @@ use Rattle.tm_texts.specs.Sources.{IsMappable, IsBlamedAs}
 
 -- The three texts have a circuit to be mapped, a circuit that may be its mapped one, and a certificate.
 pub record AreChecked (k : ℕ) (source mapped cert : List ℕ) (circuit : Plain) (claimed : Plain) (certificate : Certificate) : Type 0 where
-  pub of_source : IsCircuitOf source_limits source circuit
+  pub of_source : input.IsCircuitOf source_limits source circuit
   pub few : length (subject_of k circuit).drives ≤ most_subject_signals
   pub of_mapped : IsCircuitOf mapped_limits mapped claimed
   pub of_cert : IsCertificateOf cert certificate

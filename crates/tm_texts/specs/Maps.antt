@@ -4,6 +4,7 @@ use Rattle.tm_circuit.specs.Plain.{Plain, widest, gate_count, latch_count}
 use Rattle.tm_circuit.specs.Chain.{IsPeriod}
 use Rattle.tm_circuit.specs.Same.{IsSame}
 use Rattle.tm_circuit.specs.Sound.{IsSound}
+use Rattle.text_read.specs.Texts as input
 use Rattle.blif_read.specs.Text.{IsCircuitOf}
 use Rattle.blif_write.specs.Text.{text_of}
 use Rattle.tm_split.specs.Limits.{most_subject_signals}
@@ -50,7 +51,7 @@ pub record IsCertified (k d : ℕ) (subject mapped : Plain) (cert : Certificate)
 -- Covers of tables go by a rule.
 pub record Maps (Covers : CoverRule) (k d : ℕ) (text bytes : List ℕ) (cert : Certificate) (tables registers : ℕ) : Type 0 where
   pub source : Plain
-  pub of_text : IsCircuitOf source_limits text source
+  pub of_text : input.IsCircuitOf source_limits text source
   pub source_sound : IsSound source
   pub few : length (subject_of k source).drives ≤ most_subject_signals
   pub mapped : Plain

@@ -2,7 +2,7 @@
 use Rattle.std.specs.Prelude.{◌≡◌, ℕ, List, Err}
 use Rattle.tm_sim.specs.Vectors.{vectors_of}
 use Rattle.tm_sim.specs.declared.vectors.VectorFault.TheVariants.{Text}
-use Rattle.blif_read.specs.Text.{IsFaultOf}
+use Rattle.text_read.specs.Texts.{IsFaultOf}
 use Rattle.tm_texts.specs.declared.simulate.SimFault.{SimFault}
 use Rattle.tm_texts.specs.declared.simulate.SimFault.TheVariants.{Blif, Vectors, TooLong, NoMemory}
 use Rattle.tm_texts.specs.Limits.{mapped_limits}

@@ -7,7 +7,7 @@ use Rattle.tm_circuit.specs.Trace.{IsTrace, shown}
 use Rattle.tm_sim.specs.Vectors.{vectors_of, text_of}
 use Rattle.tm_sim.specs.declared.vectors.VectorFault.TheVariants.{Text}
 use Rattle.tm_sim.specs.declared.vectors.VectorKind.{VectorKind}
-use Rattle.blif_read.specs.Text.{IsCircuitOf, IsFaultOf}
+use Rattle.text_read.specs.Texts.{IsCircuitOf, IsFaultOf}
 use Rattle.tm_texts.specs.declared.simulate.SimFault.{SimFault}
 use Rattle.tm_texts.specs.declared.simulate.SimFault.TheVariants as fault
 use Rattle.tm_texts.specs.Limits.{output_bytes, mapped_limits}

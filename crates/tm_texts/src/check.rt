@@ -14,6 +14,7 @@ use blif_read::{BlifFault, BlifKind, MAPPED, read};
 use cert_check::{Verdict, Why, check, laws as check_laws};
 use cert_text::{Cert, CertFault, CertKind};
 use std::alloc::Global;
+use text_read::TextKind;
 use thiserror::Error;
 use tm_bits::NoMemory;
 use tm_circuit::{Circuit, laws as circuit_laws};
@@ -30,7 +31,7 @@ pub struct Checked {
 pub enum CheckFault {
     /// The first fault of the text that was mapped, or `TooManySignals` of its subject circuit.
     #[error("source, line {line}: {kind:?}")]
-    Source { line: u32, kind: BlifKind },
+    Source { line: u32, kind: TextKind },
     /// The first fault of the mapped text.
     #[error("mapped text, line {line}: {kind:?}")]
     Mapped { line: u32, kind: BlifKind },

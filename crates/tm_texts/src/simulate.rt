@@ -4,14 +4,15 @@ ghost use Rattle.std.specs.Prelude.{◌≡◌, ◌+◌, ◌*◌, ◌≤◌, leng
 ghost use Rattle.tm_circuit.specs.Plain.{input_count};
 ghost use Rattle.tm_circuit.specs.Sound.{IsSound};
 ghost use Rattle.tm_sim.specs.Vectors.{vectors_of};
-ghost use Rattle.blif_read.specs.Text.{IsCircuitOf};
+ghost use Rattle.text_read.specs.Texts.{IsCircuitOf};
 ghost use Rattle.tm_texts.specs.Limits.{mapped_bytes, vector_bytes, output_bytes, mapped_limits};
 ghost use Rattle.tm_texts.specs.Simulates.{bytes_of, IsOutput, Simulates, IsSimFault};
 ghost use Rattle.tm_texts.specs.Rows.{IsCircuitFault, IsRowsFault};
 
 use crate::limits::OUTPUT_BYTES;
-use blif_read::{BlifFault, BlifKind, MAPPED, read};
+use blif_read::MAPPED;
 use std::alloc::Global;
+use text_read::{TextFault, TextKind, read};
 use thiserror::Error;
 use tm_bits::NoMemory;
 use tm_circuit::Circuit;
@@ -30,7 +31,7 @@ pub struct Simulated {
 pub enum SimFault {
     /// The first fault of the circuit's text; its line is 0 where the fault is one of the whole text.
     #[error("circuit, line {line}: {kind:?}")]
-    Blif { line: u32, kind: BlifKind },
+    Blif { line: u32, kind: TextKind },
     /// The first fault of the vectors text.
     #[error("vectors, line {line}: {kind:?}")]
     Vectors { line: u32, kind: VectorKind },
@@ -80,8 +81,8 @@ fn read_circuit(alloc: Global, text: &[u8]) -> Result<Circuit, SimFault>
 {
     match read(alloc, text, &MAPPED) {
         Ok(circuit) => Ok(circuit),
-        Err(BlifFault::Text { line, kind }) => Err(SimFault::Blif { line, kind }),
-        Err(BlifFault::NoMemory) => Err(SimFault::NoMemory),
+        Err(TextFault::Text { line, kind }) => Err(SimFault::Blif { line, kind }),
+        Err(TextFault::NoMemory) => Err(SimFault::NoMemory),
     }
 }
 

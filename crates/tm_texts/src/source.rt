@@ -4,12 +4,13 @@ ghost use Rattle.std.specs.Prelude.{◌≤◌, length, IfOk, IfErr};
 ghost use Rattle.tm_bits.specs.Limits.{most_inputs};
 ghost use Rattle.tm_circuit.specs.Sound.{IsSound};
 ghost use Rattle.tm_parts.specs.Names.{HasNamesWithin};
-ghost use Rattle.blif_read.specs.Text.{IsCircuitOf};
+ghost use Rattle.text_read.specs.Texts.{IsCircuitOf};
 ghost use Rattle.tm_texts.specs.Limits.{source_bytes, source_limits};
 ghost use Rattle.tm_texts.specs.Sources.{IsSubjectOf, IsMapFault, IsReadFault, IsSubject, IsSplitFault};
 
-use blif_read::{BlifFault, BlifKind, SOURCE, read};
+use blif_read::SOURCE;
 use std::alloc::Global;
+use text_read::{TextFault, TextKind, laws as read_laws, read, too_many};
 use thiserror::Error;
 use tm_bits::NoMemory;
 use tm_circuit::Circuit;
@@ -20,7 +21,7 @@ use tm_split::{SplitFault, subject};
 pub enum MapFault {
     /// The first fault of the text, or `TooManySignals` of its subject circuit; the line is 0 where the fault is one of the whole.
     #[error("line {line}: {kind:?}")]
-    Text { line: u32, kind: BlifKind },
+    Text { line: u32, kind: TextKind },
     #[error("no memory")]
     NoMemory,
 }
@@ -43,8 +44,9 @@ pub(crate) fn subject_of_text(alloc: Global, text: &[u8], k: u8) -> Result<Circu
     ensures subject { IfOk result (IsSubjectOf k text.now) }
     ensures fault { IfErr result (IsMapFault k text.now) }
 {
+    read_laws::short_names();
     let source = read_source(alloc, text)?;
-    split(alloc, &source, k)
+    split(alloc, text, &source, k)
 }
 
 // The circuit of the text.
@@ -55,28 +57,24 @@ fn read_source(alloc: Global, text: &[u8]) -> Result<Circuit, MapFault>
     ensures fault { IfErr result (IsReadFault text.now) }
 {
     match read(alloc, text, &SOURCE) {
-        Ok(circuit) => {
-            // Each circuit in hand is known to be sound.
-            let _ = circuit.signals();
-            Ok(circuit)
-        }
-        Err(BlifFault::Text { line, kind }) => Err(MapFault::Text { line, kind }),
-        Err(BlifFault::NoMemory) => Err(MapFault::NoMemory),
+        Ok(circuit) => Ok(circuit),
+        Err(TextFault::Text { line, kind }) => Err(MapFault::Text { line, kind }),
+        Err(TextFault::NoMemory) => Err(MapFault::NoMemory),
     }
 }
 
-// The subject circuit, in which no gate has more than `k` pins.
-fn split(alloc: Global, source: &Circuit, k: u8) -> Result<Circuit, MapFault>
+// The subject circuit of the text's circuit, in which no gate has more than `k` pins.
+fn split(alloc: Global, text: &[u8], source: &Circuit, k: u8) -> Result<Circuit, MapFault>
     requires tables { (2 ≤ k) × (k ≤ most_inputs) }
     requires names { HasNamesWithin 255 source.now }
     ensures subject { IfOk result (IsSubject k source.now) }
-    ensures fault { IfErr result (IsSplitFault k source.now) }
+    ensures fault { IfErr result (IsSplitFault k text.now source.now) }
 {
     match subject(alloc, source, k) {
         Ok(subject) => Ok(subject),
         Err(SplitFault::TooManySignals) => Err(MapFault::Text {
             line: 0,
-            kind: BlifKind::TooManySignals,
+            kind: too_many(text),
         }),
         Err(SplitFault::NoMemory) => Err(MapFault::NoMemory),
     }

@@ -2,12 +2,11 @@
 use Rattle.std.proofs.Common.{◌≡◌, ◌≤◌, ◌⊎◌, inl, inr, ℕ, Bool, List, [], ◌∷◌, Option, Ok, subst, sym, ap, ◌∙◌, arith}
 use Rattle.tm_circuit.specs.Plain.{Plain, input_count}
 use Rattle.tm_sim.specs.Vectors.{vectors_of}
-use Rattle.blif_read.proofs.OneCircuit.{excluded}
-use Rattle.blif_read.proofs.SomeCircuit.{same_circuit}
 use Rattle.tm_mapped.specs.Mapped.{CoverRule}
 use Rattle.tm_texts.specs.Limits.{output_bytes, mapped_limits}
 use Rattle.tm_texts.specs.Checks.{AreAcceptable}
 use Rattle.tm_texts.specs.Simulates.{HasRows, bytes_of}
+use Rattle.tm_texts.proofs.InputLemmas.{same_input, faulty_input}
 use Rattle.tm_texts.proofs.Excluded.{mappable_blamed, cert_faulty, acceptable_maps, acceptable_fails, accepted_acceptable}
 use Rattle.turbomap.specs.declared.status.Status.{Status}
 use Rattle.turbomap.specs.declared.status.Status.TheVariants.{BadText}
@@ -160,14 +159,14 @@ show_status input (text ∷ more ∷ texts) s t l m one other = absurd one
 show_made : (input : List ℕ) (texts : List (List ℕ)) (s : Status) (l : List ℕ) (writes : List Write) (lines : List (List ℕ))
     → ShowRefuses input texts s l → ShowMakes texts writes lines → ⊥
 show_made input [] s l writes lines refused made = absurd refused
-show_made input (text ∷ []) s l [] lines refused made = excluded mapped_limits text (refused.number, refused.kind) made.circuit refused.first made.of_text
+show_made input (text ∷ []) s l [] lines refused made = faulty_input mapped_limits text made.circuit (refused.number, refused.kind) refused.first made.of_text
 show_made input (text ∷ []) s l (write ∷ writes) lines refused made = absurd made
 show_made input (text ∷ more ∷ texts) s l writes lines refused made = absurd refused
 
 show_accepted : (input : List ℕ) (texts : List (List ℕ)) (s : Status) (l : List ℕ) → ShowRefuses input texts s l → ShowAccepts texts → ⊥
 show_accepted input [] s l refused accepted = absurd accepted
 show_accepted input (text ∷ []) s l refused accepted =
-    excluded mapped_limits text (refused.number, refused.kind) accepted.circuit refused.first accepted.of_text
+    faulty_input mapped_limits text accepted.circuit (refused.number, refused.kind) refused.first accepted.of_text
 show_accepted input (text ∷ more ∷ texts) s l refused accepted = absurd accepted
 
 show_decided : (input : List ℕ) → IsDecided (show_command input)
@@ -183,7 +182,7 @@ show_decided input = record {
 same_bytes : (text vectors : List ℕ) (c d : Plain) (xs ys : List (List Bool)) → HasRows text vectors c xs → HasRows text vectors d ys
     → bytes_of c xs ≡ bytes_of d ys
 same_bytes text vectors c d xs ys one other =
-    let same : c ≡ d = same_circuit mapped_limits text c d one.of_text other.of_text in
+    let same : c ≡ d = same_input mapped_limits text c d one.of_text other.of_text in
     let there : vectors_of (input_count c.drives) vectors ≡ Ok ys = subst (λ (e : Plain). vectors_of (input_count e.drives) vectors ≡ Ok ys) (sym same) other.of_vectors in
     let rows : xs ≡ ys = cc (one.of_vectors, there) in
     ap (λ (e : Plain). bytes_of e xs) same ∙ ap (λ (zs : List (List Bool)). bytes_of d zs) rows
@@ -193,7 +192,7 @@ faulty_rows : (input vectors text rows : List ℕ) (s : Status) (l : List ℕ) (
     → AreFaultyVectors vectors text rows s l → ⊥
 faulty_rows input vectors text rows s l c bits has faulty =
     let why = faulty.fault in
-    let same : c ≡ why.circuit = same_circuit mapped_limits text c why.circuit has.of_text why.of_text in
+    let same : c ≡ why.circuit = same_input mapped_limits text c why.circuit has.of_text why.of_text in
     let there : vectors_of (input_count why.circuit.drives) rows ≡ Ok bits = subst (λ (e : Plain). vectors_of (input_count e.drives) rows ≡ Ok bits) same has.of_vectors in
     cc (there, why.first)
 
@@ -205,20 +204,20 @@ sim_status input vectors output (text ∷ rows ∷ more ∷ texts) s t l m one o
 sim_status input vectors output (text ∷ rows ∷ []) s t l m (inl one) (inl other) = one.status_is ∙ sym other.status_is
 sim_status input vectors output (text ∷ rows ∷ []) s t l m (inl one) (inr (inl other)) = one.status_is ∙ sym other.status_is
 sim_status input vectors output (text ∷ rows ∷ []) s t l m (inl one) (inr (inr other)) =
-    absurd (excluded mapped_limits text (one.number, one.kind) other.long.circuit one.first other.long.has.of_text)
+    absurd (faulty_input mapped_limits text other.long.circuit (one.number, one.kind) one.first other.long.has.of_text)
 sim_status input vectors output (text ∷ rows ∷ []) s t l m (inr (inl one)) (inl other) = one.status_is ∙ sym other.status_is
 sim_status input vectors output (text ∷ rows ∷ []) s t l m (inr (inl one)) (inr (inl other)) = one.status_is ∙ sym other.status_is
 sim_status input vectors output (text ∷ rows ∷ []) s t l m (inr (inl one)) (inr (inr other)) =
     absurd (faulty_rows input vectors text rows s l other.long.circuit other.long.rows other.long.has one)
 sim_status input vectors output (text ∷ rows ∷ []) s t l m (inr (inr one)) (inl other) =
-    absurd (excluded mapped_limits text (other.number, other.kind) one.long.circuit other.first one.long.has.of_text)
+    absurd (faulty_input mapped_limits text one.long.circuit (other.number, other.kind) other.first one.long.has.of_text)
 sim_status input vectors output (text ∷ rows ∷ []) s t l m (inr (inr one)) (inr (inl other)) =
     absurd (faulty_rows input vectors text rows t m one.long.circuit one.long.rows one.long.has other)
 sim_status input vectors output (text ∷ rows ∷ []) s t l m (inr (inr one)) (inr (inr other)) = one.status_is ∙ sym other.status_is
 
 few_refused : (input vectors output text rows : List ℕ) (s : Status) (l : List ℕ) (c : Plain) (bits : List (List Bool))
     → HasRows text rows c bits → bytes_of c bits ≤ output_bytes → SimRefuses input vectors output (text ∷ rows ∷ []) s l → ⊥
-few_refused input vectors output text rows s l c bits has few (inl refused) = excluded mapped_limits text (refused.number, refused.kind) c refused.first has.of_text
+few_refused input vectors output text rows s l c bits has few (inl refused) = faulty_input mapped_limits text c (refused.number, refused.kind) refused.first has.of_text
 few_refused input vectors output text rows s l c bits has few (inr (inl refused)) = faulty_rows input vectors text rows s l c bits has refused
 few_refused input vectors output text rows s l c bits has few (inr (inr refused)) =
     let same = same_bytes text rows c refused.long.circuit bits refused.long.rows has refused.long.has in omega (arith, few, refused.long.long, same)

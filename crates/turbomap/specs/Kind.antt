@@ -4,6 +4,10 @@ use Rattle.tm_sim.specs.declared.vectors.VectorKind.{VectorKind}
 use Rattle.tm_sim.specs.declared.vectors.VectorKind.TheVariants.{Byte, Width}
 use Rattle.blif_read.specs.declared.fault.BlifKind.{BlifKind}
 use Rattle.blif_read.specs.declared.fault.BlifKind.TheVariants.{BadByte, LongName, UnknownWord, LeftOut, Misplaced, BadCount, TooManyPins, RepeatedDriver, RepeatedOutput, BadRow, MixedRows, BadType, BadInit, UnknownInit, ManyClocks, Undriven, GatedClock, ClockAsData, TooManySignals, Loop, BadBinding, RepeatedModel, NoModel, UnknownFormal, RepeatedFormal, Unbound, Recursion, TooDeep, TooLarge}
+use Rattle.aiger_read.specs.declared.fault.AigerKind.{AigerKind}
+use Rattle.aiger_read.specs.declared.fault.AigerKind.TheVariants as aiger
+use Rattle.text_read.specs.declared.fault.TextKind.{TextKind}
+use Rattle.text_read.specs.declared.fault.TextKind.TheVariants.{Blif, Aiger}
 use Rattle.cert_text.specs.declared.fault.CertKind.{CertKind}
 use Rattle.cert_text.specs.declared.fault.CertKind.TheVariants.{Version, Word, Number, Ending}
 use Rattle.cert_check.specs.declared.verdict.Why.{Why}
@@ -40,6 +44,25 @@ kind_name Unbound = codes "Unbound"
 kind_name Recursion = codes "Recursion"
 kind_name TooDeep = codes "TooDeep"
 kind_name TooLarge = codes "TooLarge"
+
+abbrev pub aiger_kind_name : AigerKind → List ℕ
+aiger_kind_name aiger.BadHeader = codes "BadHeader"
+aiger_kind_name aiger.LeftOut = codes "LeftOut"
+aiger_kind_name aiger.Ending = codes "Ending"
+aiger_kind_name aiger.BadLine = codes "BadLine"
+aiger_kind_name aiger.BadLiteral = codes "BadLiteral"
+aiger_kind_name aiger.Repeated = codes "Repeated"
+aiger_kind_name aiger.BadReset = codes "BadReset"
+aiger_kind_name aiger.UnknownInit = codes "UnknownInit"
+aiger_kind_name aiger.BadSymbol = codes "BadSymbol"
+aiger_kind_name aiger.Undriven = codes "Undriven"
+aiger_kind_name aiger.TooManySignals = codes "TooManySignals"
+aiger_kind_name aiger.Loop = codes "Loop"
+
+-- a kind of BLIF or of AIGER is said by the name of the inner variant
+abbrev pub text_kind_name : TextKind → List ℕ
+text_kind_name (Blif kind) = kind_name kind
+text_kind_name (Aiger kind) = aiger_kind_name kind
 
 abbrev pub vector_kind_name : VectorKind → List ℕ
 vector_kind_name Byte = codes "Byte"

@@ -11,7 +11,7 @@ use Rattle.turbomap.specs.declared.reading.Rows.TheVariants.{Single, Prime}
 use Rattle.turbomap.specs.declared.status.Status.{Status}
 use Rattle.turbomap.specs.declared.status.Status.TheVariants.{BadText}
 use Rattle.turbomap.specs.Command.{Write, Command, input_of, write_of}
-use Rattle.turbomap.specs.Kind.{kind_name}
+use Rattle.turbomap.specs.Kind.{text_kind_name}
 use Rattle.turbomap.specs.Line.{fault_line, mapped_line}
 
 -- the rule for covers with the rows that are asked for
@@ -21,7 +21,7 @@ rule_of Prime = ByPrimeRows
 
 -- the line that says why the text of a file is refused
 abbrev pub blame_line : List ℕ → Blame → List ℕ
-blame_line name blame = fault_line name (said_of blame).0 (kind_name (said_of blame).1)
+blame_line name blame = fault_line name (said_of blame).0 (text_kind_name (said_of blame).1)
 
 -- the text of the file is refused for a reason that the line says
 pub record IsBlamedBy (k : ℕ) (name text : List ℕ) (status : Status) (line : List ℕ) : Type 0 where

@@ -2,7 +2,7 @@
 use Rattle.std.specs.Prelude.{ℕ, List, [], ◌∷◌}
 use Rattle.tm_circuit.specs.Plain.{Plain}
 use Rattle.tm_report.specs.Report.{IsReport}
-use Rattle.blif_read.specs.Text.{IsCircuitOf}
+use Rattle.text_read.specs.Texts.{IsCircuitOf}
 use Rattle.turbomap.specs.declared.status.Status.{Status}
 use Rattle.turbomap.specs.Command.{Write, Command, input_of}
 use Rattle.tm_texts.specs.Limits.{mapped_bytes, mapped_limits}

@@ -6,7 +6,7 @@ ghost use Rattle.turbomap.specs.Asking.{bound_asked};
 ghost use Rattle.turbomap.specs.Command.{stored};
 ghost use Rattle.turbomap.specs.Prepared.{IsMade, IsReady, IsTextRefusal, HasCause};
 
-use crate::kind::kind_name;
+use crate::kind::text_kind_name;
 use crate::line::{bound_line, fault_line};
 use crate::reading::BoundWords;
 use crate::ready::{Ready, no_output};
@@ -44,7 +44,7 @@ fn make_bound<'a>(alloc: Global, words: BoundWords<'a>, text: &[u8]) -> Result<R
             Ok(no_output(alloc, line)?)
         }
         Err(MapFault::Text { line, kind }) => {
-            let kind = kind_name(kind);
+            let kind = text_kind_name(kind);
             Err(Refusal::BadText(fault_line(alloc, words.input, line, kind)?))
         }
         Err(MapFault::NoMemory) => Err(Refusal::NoMemory),

@@ -6,7 +6,7 @@ ghost use Rattle.turbomap.specs.Asking.{check_asked};
 ghost use Rattle.turbomap.specs.Command.{stored};
 ghost use Rattle.turbomap.specs.Prepared.{IsMade, IsReady, IsTextRefusal, HasCause};
 
-use crate::kind::{cert_kind_name, kind_name, why_name};
+use crate::kind::{cert_kind_name, kind_name, text_kind_name, why_name};
 use crate::line::{accepted_line, fault_line, not_accepted_line};
 use crate::reading::CheckWords;
 use crate::ready::{Ready, no_output};
@@ -54,7 +54,7 @@ fn make_check<'a>(
             Ok(no_output(alloc, line)?)
         }
         Err(CheckFault::Source { line, kind }) => {
-            let kind = kind_name(kind);
+            let kind = text_kind_name(kind);
             Err(Refusal::BadText(fault_line(alloc, words.input, line, kind)?))
         }
         Err(CheckFault::Mapped { line, kind }) => {

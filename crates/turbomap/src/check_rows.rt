@@ -1,5 +1,7 @@
 // The rows of the tests of certificates: what is written, and what the checker says of texts that were changed.
 
+use crate::aiger_rows;
+
 // A loop of three gates, in which lag pays nothing, and its mapped text.
 pub const RING3: &str =
     ".model ring3\n.inputs a b c\n.outputs g3\n.latch g3 q 0\n.names q a g1\n10 1\n01 1\n.names g1 b g2\n10 1\n01 1\n.names g2 c g3\n10 1\n01 1\n.end\n";
@@ -257,6 +259,9 @@ const CHECK_TWIN: Check = Check {
 
 pub const CHECKS: &[Check] = &[
     CHECK_TWIN,
+    // an AIGER text, and one in the place of the mapped text
+    aiger_rows::CHECK_FLIP,
+    aiger_rows::CHECK_AIGER_AS_MAPPED,
     // by version 2 the second latch is read as the first
     Check {
         cert: "turbomap 2\nperiod 2\ntables 3\ntable 5 0 1.0 3.0\ntable 6 0 2.0 4.0\ntable 7 0 5.0 6.0\ndrops 1\ndrop 7 0 1 00 01 10 11\nend\n",

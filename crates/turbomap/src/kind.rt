@@ -1,11 +1,13 @@
 // The names of the kinds of faults, and of the reasons of a check, as lines say them.
 
 ghost use Rattle.std.specs.Prelude.{◌≡◌};
-ghost use Rattle.turbomap.specs.Kind.{kind_name, vector_kind_name, cert_kind_name, why_name};
+ghost use Rattle.turbomap.specs.Kind.{kind_name, aiger_kind_name, text_kind_name, vector_kind_name, cert_kind_name, why_name};
 
+use aiger_read::AigerKind;
 use blif_read::BlifKind;
 use cert_check::Why;
 use cert_text::CertKind;
+use text_read::TextKind;
 use tm_sim::vectors::VectorKind;
 
 /// The name of the kind: that of its variant.
@@ -42,6 +44,36 @@ pub fn kind_name(kind: BlifKind) -> &'static str
         BlifKind::Recursion => "Recursion",
         BlifKind::TooDeep => "TooDeep",
         BlifKind::TooLarge => "TooLarge",
+    }
+}
+
+/// The name of the kind of fault of an AIGER text: that of its variant.
+fn aiger_kind_name(kind: AigerKind) -> &'static str
+    ensures { result.now ≡ aiger_kind_name kind }
+{
+    match kind {
+        AigerKind::BadHeader => "BadHeader",
+        AigerKind::LeftOut => "LeftOut",
+        AigerKind::Ending => "Ending",
+        AigerKind::BadLine => "BadLine",
+        AigerKind::BadLiteral => "BadLiteral",
+        AigerKind::Repeated => "Repeated",
+        AigerKind::BadReset => "BadReset",
+        AigerKind::UnknownInit => "UnknownInit",
+        AigerKind::BadSymbol => "BadSymbol",
+        AigerKind::Undriven => "Undriven",
+        AigerKind::TooManySignals => "TooManySignals",
+        AigerKind::Loop => "Loop",
+    }
+}
+
+/// The name of the kind of fault of a text, of BLIF or of AIGER: that of the inner variant.
+pub fn text_kind_name(kind: TextKind) -> &'static str
+    ensures { result.now ≡ text_kind_name kind }
+{
+    match kind {
+        TextKind::Blif(kind) => kind_name(kind),
+        TextKind::Aiger(kind) => aiger_kind_name(kind),
     }
 }
 

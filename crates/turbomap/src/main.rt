@@ -3,6 +3,8 @@
 //! it the files, the standard output and the words of the command line.
 #![tactic(auto)]
 
+#[cfg(test)]
+mod aiger_rows;
 mod bound_file;
 mod check_files;
 #[cfg(test)]
@@ -33,6 +35,7 @@ use std::env::Env;
 use std::io::ErrorKind;
 use std::process::ExitCode;
 use std::{env, io};
+pub use text_read::TextKind;
 use tm_store::{FileStore, OutSay};
 pub use tm_texts::{
     CheckFault, Checked, MapFault, Mapped, SimFault, Simulated, check_texts, map_text, prime_text,

@@ -11,7 +11,7 @@ ghost use Rattle.turbomap.specs.Line.{mapped_line};
 ghost use Rattle.turbomap.specs.Map.{rule_of, mapped_writes};
 ghost use Rattle.turbomap.specs.Prepared.{AreReady, IsMade, IsReady, IsTextRefusal, HasCause};
 
-use crate::kind::kind_name;
+use crate::kind::text_kind_name;
 use crate::line::{fault_line, mapped_line};
 use crate::reading::{MapWords, Rows};
 use crate::ready::{Ready, one_output, two_outputs};
@@ -51,7 +51,7 @@ fn make_map<'a>(alloc: Global, words: MapWords<'a>, text: &[u8]) -> Result<Ready
     match map_rows(alloc, words, text) {
         Ok(mapped) => Ok(write_mapped(alloc, words, mapped)?),
         Err(MapFault::Text { line, kind }) => {
-            let kind = kind_name(kind);
+            let kind = text_kind_name(kind);
             Err(Refusal::BadText(fault_line(alloc, words.input, line, kind)?))
         }
         Err(MapFault::NoMemory) => Err(Refusal::NoMemory),

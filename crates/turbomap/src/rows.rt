@@ -1,5 +1,6 @@
 // The rows of the tests: texts, and what the program makes of them, worked out by hand.
 
+use crate::aiger_rows;
 use crate::check_rows::{RING3, RING3_MAPPED, TWIN, TWIN_CERT, TWIN_MAPPED};
 
 // What stands for the text of a file that holds none.
@@ -272,6 +273,9 @@ pub const MAPPINGS: &[Mapping] = &[
         said: "period 1 tables 1 registers 0\n",
         out: ".model top\n.inputs a b c d e f g h\n.outputs y\n.names a b c d e f g h y\n11111111 1\n.end\n",
     },
+    // AIGER texts
+    aiger_rows::MAP_FLIP,
+    aiger_rows::MAP_AND,
     // an empty text
     Mapping {
         k: "2",
@@ -309,6 +313,7 @@ pub const FREE: &[Mapping] = &[
 
 // Texts that are mapped with prime rows.
 pub const PRIMES: &[Mapping] = &[
+    aiger_rows::PRIME_OR,
     Mapping {
         k: "2",
         d: "0",
@@ -364,6 +369,9 @@ pub const REFUSED: &[Refused] = &[
         text: ".model g\n.inputs a\n.outputs q\n.latch a q re k 0\n.names a k\n1 1\n.end\n",
         said: "t.blif: line 5: GatedClock\n",
     },
+    aiger_rows::UNKNOWN_RESET,
+    aiger_rows::MORE_SECTIONS,
+    aiger_rows::UNDRIVEN,
     Refused {
         text: ".model h\n.inputs a\n.gate and2 A=a\n.end\n",
         said: "t.blif: line 3: LeftOut\n",
@@ -555,6 +563,10 @@ pub const RUNS: &[Run<'static>] = &[
         said: "t.blif: line 4: UnknownInit\n",
         ..SHOW_ABC
     },
+    // AIGER texts
+    aiger_rows::SIM_FLIP,
+    aiger_rows::SHOW_AND,
+    aiger_rows::BOUND_AND,
     // a name that holds nothing, and failing calls
     Run {
         words: &["map", "2", "0", "a", "o.blif"],

@@ -6,13 +6,14 @@ ghost use Rattle.tm_texts.specs.Limits.{mapped_bytes};
 ghost use Rattle.turbomap.specs.Prepared.{IsMade, IsReady, IsTextRefusal, HasCause};
 ghost use Rattle.turbomap.specs.Show.{show_command};
 
-use crate::kind::kind_name;
+use crate::kind::text_kind_name;
 use crate::line::fault_line;
 use crate::ready::Ready;
 use crate::refusal::Refusal;
 use crate::text::read_file;
-use blif_read::{BlifFault, MAPPED, read};
+use blif_read::MAPPED;
 use std::alloc::Global;
+use text_read::{TextFault, read};
 use tm_report::show;
 use tm_store::Store;
 use tm_texts::MAPPED_BYTES;
@@ -44,10 +45,10 @@ fn make_show<'a>(alloc: Global, input: &'a str, text: &[u8]) -> Result<Ready<'a>
             outputs: Vec::new(alloc),
             lines: show(alloc, &circuit)?,
         }),
-        Err(BlifFault::Text { line, kind }) => {
-            let kind = kind_name(kind);
+        Err(TextFault::Text { line, kind }) => {
+            let kind = text_kind_name(kind);
             Err(Refusal::BadText(fault_line(alloc, input, line, kind)?))
         }
-        Err(BlifFault::NoMemory) => Err(Refusal::NoMemory),
+        Err(TextFault::NoMemory) => Err(Refusal::NoMemory),
     }
 }

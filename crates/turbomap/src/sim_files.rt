@@ -6,7 +6,7 @@ ghost use Rattle.tm_texts.specs.Limits.{mapped_bytes, vector_bytes};
 ghost use Rattle.turbomap.specs.Prepared.{IsMade, IsReady, IsTextRefusal, HasCause};
 ghost use Rattle.turbomap.specs.Asking.{sim_asked};
 
-use crate::kind::{kind_name, vector_kind_name};
+use crate::kind::{text_kind_name, vector_kind_name};
 use crate::line::{fault_line, steps_line, too_long_line};
 use crate::reading::SimWords;
 use crate::ready::{Ready, one_output};
@@ -54,7 +54,7 @@ fn make_sim<'a>(
             Ok(one_output(alloc, words.output, simulated.text, line)?)
         }
         Err(SimFault::Blif { line, kind }) => {
-            let kind = kind_name(kind);
+            let kind = text_kind_name(kind);
             Err(Refusal::BadText(fault_line(alloc, words.input, line, kind)?))
         }
         Err(SimFault::Vectors { line, kind }) => {

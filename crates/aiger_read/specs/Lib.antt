@@ -1,0 +1,12 @@
+pub mod Limits
+pub mod Lines
+pub mod Header
+pub mod Statements
+pub mod Symbols
+pub mod Faults
+pub mod Names
+pub mod Circuit
+pub mod Text
+pub mod Trace
+pub mod Steps
+pub mod Making
