@@ -165,6 +165,7 @@ def settled():
     down to the end."""
     yield wide_gate_mapped(60_000)
     yield mapped("a tower of 99,999 gates", tower(99_999), "period 1 tables 1 registers 0")
+    yield mapped("a tower of 49,999 pairs", tower_of_pairs(49_999), "period 49999 tables 49999 registers 0")
     yield mapped("a ladder of 49,999 pairs", ladder(49_999), "period 1 tables 2 registers 0")
     yield mapped("a tower of 2,000 gates", tower(2000), "period 1 tables 1 registers 0", "map 2 8")
     yield mapped("a tower of 2,000 pairs", tower_of_pairs(2000), "period 2000 tables 2000 registers 0", "map 2 8")
@@ -175,7 +176,7 @@ def settled():
 
 
 def settled_longer():
-    yield mapped("a tower of 49,999 pairs", tower_of_pairs(49_999), "period 49999 tables 49999 registers 0")
+    yield mapped("a tower of 8,000 pairs", tower_of_pairs(8000), "period 8000 tables 8000 registers 0", "map 2 8")
     yield mapped("a tower of 8,000 outputs", tower_of_outputs(8000), "period 1 tables 8000 registers 0")
     yield mapped("a tower of 2,000 gates in a loop", tower_in_loop(2000, 9), "period *", "map 2 8")
     yield bound("a tower of 2,000 gates in a loop", tower_in_loop(2000, 9), "bound period *", "bound 2 8 8")
