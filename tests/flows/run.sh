@@ -75,5 +75,13 @@ flows/verilog_to_tables.sh tests/interop/gray_counter.v >"$folder/said" 2>&1
 expect "status of too few words" 2 $?
 [ ! -e "$folder/none.v" ] || expect "no file after a refusal" "" "$folder/none.v"
 
+expect "a sweep" "D  period  tables  registers  two-way bound
+0       2       3          5              1
+$(for d in 1 2 3 4 5 6 7 8; do echo "$d       1       3          3              1"; done)
+the least period is 1, from D = 1 on" "$(flows/sweep.sh examples/two_levels.blif 2)"
+flows/sweep.sh examples/missing.blif 2 >"$folder/said" 2>&1
+expect "status of a sweep of a missing file" 3 $?
+expect "a sweep of a missing file" "sweep: cannot read examples/missing.blif" "$(cat "$folder/said")"
+
 [ "$failed" -eq 0 ] && echo "flows: $checks checks passed"
 exit "$failed"
