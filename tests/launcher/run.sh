@@ -47,6 +47,25 @@ expect "status of a missing file" 3 $?
 expect "line of a missing file" "cannot read $folder/missing.blif" "$(cat "$folder/said")"
 [ ! -e "$folder/none.blif" ] || { echo "launcher: a file was written"; failed=1; }
 
+# What the launcher answers itself: in a screen, with the nine forms and the ten statuses.
+help=$(./turbomap --help)
+expect "lines of help, at most" 24 "$({ echo 24; wc -l <<<"$help"; } | sort -n | tail -n 1)"
+expect "columns of help, at most" 80 "$({ echo 80; wc -L <<<"$help"; } | sort -n | tail -n 1)"
+for form in 'map K D IN OUT [CERT]' 'prime K D IN OUT [CERT]' 'check K D IN OUT CERT' 'sim IN VECTORS OUT' 'show IN' 'large N K D' 'bound K D B IN'; do
+    expect "help of $form" 1 "$(grep -cF "$form " <<<"$help")"
+done
+expect "statuses of help" "0 1 2 3 4 5 6 7 8 9" "$(sed -n '/^Status:/,/^Example/p' <<<"$help" | grep -oE '(: |, |^)[0-9] ' | grep -o '[0-9]' | tr '\n' ' ' | sed 's/ $//')"
+expect "the example of help" "period 1 tables 1 registers 2" "$($(grep '^    ./turbomap' <<<"$help" | sed "s|out.blif|$folder/out.blif|"))"
+expect "version" "TurboMap, proved with $(sed -n 's/^Proved with `\(.*\)`\.$/\1/p' README.md)" "$(./turbomap --version | head -n 1)"
+expect "commit" "commit $(git rev-parse HEAD 2>/dev/null || echo unknown)" "$(./turbomap --version | tail -n 1 | sed 's/ with changes$//')"
+mkdir "$folder/installed"
+./turbomap --install "$folder/installed"
+expect "status of an installation" 0 $?
+expect "what is installed" "period 1 tables 1 registers 1" "$("$folder/installed/turbomap" map 2 0 examples/toggle.blif "$folder/out.blif")"
+./turbomap --install "$folder/missing" 2>/dev/null
+expect "status where the folder is missing" 9 $?
+expect "other words" "bad command line" "$(./turbomap --help me)"
+
 # In a copy with an `rt` that only makes a file: built where the program is missing or a source is newer, and not otherwise.
 copy=$folder/copy
 mkdir -p "$copy/crates/turbomap/src" "$folder/bin"
@@ -55,12 +74,14 @@ touch -d '2 hours ago' "$copy/crates.txt" "$copy/crates/turbomap/src/main.rt"
 cat >"$folder/bin/rt" <<'END'
 #!/bin/sh
 [ -e refuse ] && exit 1
+echo bad command line
 mkdir -p out && printf '#!/bin/sh\necho ran\n' >out/turbomap && chmod +x out/turbomap
 END
 chmod +x "$folder/bin/rt"
 launch() { PATH=$folder/bin:$PATH "$copy/turbomap" 2>"$folder/built"; }
 expect "a missing program" "ran" "$(launch)"
 expect "the build of a missing program" 1 "$(grep -c building "$folder/built")"
+expect "what the build says of its own words" 0 "$(grep -c 'bad command line' "$folder/built")"
 touch -d '1 hour ago' "$copy/crates/turbomap/out/turbomap"
 expect "a program that is newer" "ran" "$(launch)"
 expect "no build of a newer program" 0 "$(grep -c building "$folder/built")"
@@ -73,5 +94,5 @@ touch "$copy/crates/turbomap/refuse" "$copy/crates/turbomap/src/main.rt"
 launch >/dev/null
 expect "the status where it can't be built" 9 $?
 
-[ "$failed" -eq 0 ] && echo "launcher: 19 checks passed"
+[ "$failed" -eq 0 ] && echo "launcher: $checks checks passed"
 exit "$failed"
