@@ -83,5 +83,24 @@ flows/sweep.sh examples/missing.blif 2 >"$folder/said" 2>&1
 expect "status of a sweep of a missing file" 3 $?
 expect "a sweep of a missing file" "sweep: cannot read examples/missing.blif" "$(cat "$folder/said")"
 
+# An iCE40's cells of the sender, whose registers have an enable and begin with 1.
+same_cells() {
+    yosys -q -p "read_blif $1; setundef -init -zero; techmap; dfflegalize -cell \$_DFF_?_ 01; abc -g simple; rename -hide; rename -enumerate; write_blif $folder/cells.blif"
+    same "$folder/kept/source.blif" "$folder/cells.blif"
+}
+if command -v nextpnr-ice40 >/dev/null; then
+    flows/verilog_to_tables.sh tests/interop/serial_sender.v serial_sender 4 0 "$folder/tables.v" "$folder/kept" >/dev/null
+    flows/ice40.sh --keep-enables tests/interop/serial_sender.v serial_sender 1 "$folder/ice40" >"$folder/said" 2>&1
+    expect "status of ice40" 0 $?
+    expect "rows of ice40" 5 "$(sed '1,/^flow/d' "$folder/said" | grep -c ' [1-9][0-9]*  *[0-9]*  *[0-9]*  *[1-9][0-9]*  *[1-9][0-9]*$')"
+    expect "cells that moved" "Networks are equivalent" "$(same_cells "$folder/ice40/turbomap.blif")"
+    expect "cells of which some are kept" "Networks are equivalent" "$(same_cells "$folder/ice40/keeping.blif")"
+    expect "cells that are kept" '$_SDFFCE_PP0P_' "$(grep -o -m 1 '$_SDFFCE_PP0P_' "$folder/ice40/keeping.blif")"
+    echo 'module t(input c, r, d, output reg q = 0); always @(posedge c or posedge r) if (r) q <= 0; else q <= ~d; endmodule' >"$folder/t.v"
+    expect "a row with an asynchronous reset" 1 "$(flows/ice40.sh "$folder/t.v" t 2 | grep -c '^turbomap, D = 2  *[01]  *1  *0 ')"
+else
+    echo "flows: ice40 left out, it wants nextpnr-ice40"
+fi
+
 [ "$failed" -eq 0 ] && echo "flows: $checks checks passed"
 exit "$failed"
