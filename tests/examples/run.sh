@@ -12,7 +12,7 @@ while IFS='|' read -r _ circuit _ words said _; do
         "$("$program" check "$k" "$d" "examples/$circuit" "$folder/out" "$folder/certificate" | sed 's/ drops .*//')"
 done < <(grep '^| [a-z]' examples/README.md)
 
-# Every circuit has a row. One in a comment below the table waits for its format, and becomes a row where the comment's marks go.
+# Every circuit has a row.
 for text in examples/*.*; do
     [ "$text" = examples/README.md ] || expect "a row of $text" 1 "$(grep -c -m 1 "| $(basename "$text") |" examples/README.md)"
 done
