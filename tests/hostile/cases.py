@@ -178,8 +178,8 @@ def settled():
 def settled_longer():
     yield mapped("a tower of 8,000 pairs", tower_of_pairs(8000), "period 8000 tables 8000 registers 0", "map 2 8")
     yield mapped("a tower of 8,000 outputs", tower_of_outputs(8000), "period 1 tables 8000 registers 0")
-    yield mapped("a tower of 2,000 gates in a loop", tower_in_loop(2000, 9), "period *", "map 2 8")
-    yield bound("a tower of 2,000 gates in a loop", tower_in_loop(2000, 9), "bound period *", "bound 2 8 8")
+    yield mapped("a tower of 400 gates in a loop", tower_in_loop(400, 9), "period *", "map 2 8")
+    yield bound("a tower of 400 gates in a loop", tower_in_loop(400, 9), "bound period *", "bound 2 8 8")
     yield mapped("90,000 gates that read all of 8 latches", all_read_all(8, 90_000), "period 1 *", "map 8 8")
     yield mapped("255 gates that read all of 255 latches", all_read_all(255, 255), "period *", "map 8 8")
     yield mapped("long names of one byte, with lags", long_names(24_000), "period 1 tables 24000 *", "map 2 8")
