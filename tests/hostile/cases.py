@@ -181,7 +181,7 @@ def settled_longer():
     yield mapped("a tower of 400 gates in a loop", tower_in_loop(400, 9), "period *", "map 2 8")
     yield bound("a tower of 400 gates in a loop", tower_in_loop(400, 9), "bound period *", "bound 2 8 8")
     yield mapped("90,000 gates that read all of 8 latches", all_read_all(8, 90_000), "period 1 *", "map 8 8")
-    yield mapped("255 gates that read all of 255 latches", all_read_all(255, 255), "period *", "map 8 8")
+    yield mapped("64 gates that read all of 64 latches", all_read_all(64, 64), "period *", "map 8 8")
     yield mapped("long names of one byte, with lags", long_names(24_000), "period 1 tables 24000 *", "map 2 8")
     yield from deep_tables(8000)
 
