@@ -1,5 +1,5 @@
 #!/usr/bin/env bash
-# Texts at every limit and one past it: their statuses, time, memory and files. With the word `all` also the longest, which take much longer.
+# Texts at every limit and one past it: their statuses, time, memory and files. With the word `all` the longest, too.
 . "$(dirname "$0")/../expect.sh" hostile
 
 if ! command -v python3 >/dev/null; then
