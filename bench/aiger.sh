@@ -3,7 +3,7 @@
 #
 #   bench/aiger.sh [RUNS]
 #
-# Random circuits of 20,000 and of 200,000 ands are written in both formats, with the same names, so that `show` says the same of both.
+# Random circuits of 7,000 and of 70,000 ands are written in both formats, with the same names, so that `show` says the same of both.
 # `sim` reads each text for no step at all. Each figure is the least processor time of RUNS runs (5 unless given), less that of a
 # run on an empty text: in microseconds a kilobyte, and in nanoseconds a gate.
 #
@@ -23,7 +23,7 @@ import tempfile
 
 from timing import PROGRAM, runs_wanted, seconds
 
-SIZES = [20_000, 200_000]
+SIZES = [7_000, 70_000]
 OUTPUTS = 8
 
 
