@@ -1,10 +1,11 @@
 #!/usr/bin/env bash
-# From Verilog to a placed and routed iCE40 (hx8k): TurboMap's tables of four inputs with lags of at most D, beside what synth_ice40
-# makes of the same design. It says tables, flip-flops and carry cells, and the frequencies that nextpnr reaches with two seeds.
+# From Verilog to a placed and routed iCE40 (hx8k): TurboMap's tables of four inputs with lags of at most D, which ABC covers again where
+# that takes fewer tables, beside what synth_ice40 makes of the same design. It says tables, flip-flops and carry cells, and the
+# frequencies that nextpnr reaches with two seeds.
 # Flip-flops with an asynchronous reset stay cells of their own, which don't move. With --keep-enables there is also a result in which
 # those with an enable or a synchronous reset do, too.
-# Debian's packages yosys, berkeley-abc and nextpnr-ice40 are wanted. With FOLDER the designs are kept there: NAME.json for nextpnr, and TurboMap's
-# as NAME.blif, too.
+# Debian's packages yosys, berkeley-abc and nextpnr-ice40 are wanted. With FOLDER the designs are kept there: NAME.json for nextpnr, and
+# TurboMap's as NAME.blif, too.
 flow=ice40
 keeps=
 if [ "$1" = --keep-enables ]; then
@@ -30,31 +31,51 @@ cells_of() {
     told=$(yosys -q -p "$2; tee -q -o $1.stat stat; write_json $1.json" 2>&1) || stop 1 "$told"
 }
 
-# Leaves in source.blif what maps better, the text or ABC's graph of it: fewer tables where the period is no greater. ABC forgets the
-# clock, which is put back.
+# `by_abc IN COMMANDS OUT`: what ABC makes of a text, on whole lines and with the clock, which ABC forgets.
+by_abc() {
+    local clock
+    clock=$(awk '/^\.latch/ && NF == 6 { print $4, $5; exit }' "$1")
+    { "$abc" -c "read_blif $1; $2; write_blif abc.blif"; } >/dev/null 2>&1 || return 1
+    sed -e ':join' -e '/\\$/ { N; s/\\\n//; b join' -e '}' abc.blif |
+        awk -v clock="$clock" '/^\.latch/ { print $1, $2, $3, clock, $4; next } /^[^#]/ { print }' >"$3"
+}
+
+# Leaves in source.blif what maps better, the text or ABC's graph of it: fewer tables where the period is no greater.
 choose_source() {
-    local clock period tables other fewer
+    local period tables other fewer
     run_turbomap map 4 "$d" source.blif mapped.blif
     read -r _ period _ tables _ <<<"$said"
-    clock=$(awk '/^\.latch/ && NF == 6 { print $4, $5; exit }' source.blif)
-    "$abc" -c "read_blif source.blif; strash; write_blif graph.blif" >/dev/null 2>&1 || return 0
-    awk -v clock="$clock" '/^\.latch/ { print $1, $2, $3, clock, $4; next } { print }' graph.blif >graph_with_clock.blif
-    read -r _ other _ fewer _ < <("$turbomap" map 4 "$d" graph_with_clock.blif mapped.blif)
+    by_abc source.blif strash graph.blif || return 0
+    read -r _ other _ fewer _ < <("$turbomap" map 4 "$d" graph.blif mapped.blif)
     if [[ $other = [0-9]* ]] && { [ "$other" -lt "$period" ] || { [ "$other" -eq "$period" ] && [ "$fewer" -lt "$tables" ]; }; }; then
-        mv graph_with_clock.blif source.blif
+        mv graph.blif source.blif
     fi
+}
+
+# `cover_again PERIOD TABLES`: has ABC cover mapped.blif again where its registers stand now, into tidied.blif. That is kept where there
+# are fewer tables, the period is no greater, and `dsec` shows it equivalent.
+cover_again() {
+    local period tables
+    tidy mapped.blif tidied.blif
+    by_abc tidied.blif 'strash; dch -f; if -K 4; mfs2; lutpack' again.blif || return 0
+    read -r period tables < <("$turbomap" show again.blif | awk '/^inputs/ { gates = $NF } /^period/ { print $2, gates }')
+    [[ $period = [0-9]* ]] && [ "$period" -le "$1" ] && [ "$tables" -lt "$2" ] || return 0
+    [ "$(compare mapped.blif again.blif 60)" = "shown by ABC" ] && tidy again.blif tidied.blif
 }
 
 # `map_cells NAME FLIP_FLOPS`: through TurboMap, with the flip-flops that the words for `dfflegalize` add kept as cells.
 map_cells() {
+    local line period tables
     gates_of "$source" "$top" design.blif "-cell \$_DFF_?_ 01 $2"
     awk -v kept=cells -f "$flows/lift.awk" design.blif >source.blif
     choose_source
     run_turbomap map 4 "$d" source.blif mapped.blif certificate
-    echo "$1: $said"
+    line="$1: $said"
+    echo "$line"
     run_turbomap check 4 "$d" source.blif mapped.blif certificate
     echo "$1: $said"
-    tidy mapped.blif tidied.blif
+    read -r _ _ period _ tables _ <<<"$line"
+    cover_again "$period" "$tables"
     awk -f "$flows/complement.awk" tidied.blif >complemented.blif
     awk -v kept=cells -f "$flows/put_back.awk" complemented.blif >"$1.blif"
     cells_of "$1" "read_verilog -lib +/ice40/cells_sim.v; read_blif -wideports $1.blif; hierarchy -top $top; proc
