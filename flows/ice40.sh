@@ -31,13 +31,18 @@ cells_of() {
     told=$(yosys -q -p "$2; tee -q -o $1.stat stat; write_json $1.json" 2>&1) || stop 1 "$told"
 }
 
-# `by_abc IN COMMANDS OUT`: what ABC makes of a text, on whole lines and with the clock, which ABC forgets.
+# `by_abc IN COMMANDS OUT`: what ABC makes of a text, on whole lines and with the clock, which ABC forgets. Names that ABC made bear
+# that of OUT, since ABC stops where it makes one that it has read.
 by_abc() {
     local clock
     clock=$(awk '/^\.latch/ && NF == 6 { print $4, $5; exit }' "$1")
     { "$abc" -c "read_blif $1; $2; write_blif abc.blif"; } >/dev/null 2>&1 || return 1
-    sed -e ':join' -e '/\\$/ { N; s/\\\n//; b join' -e '}' abc.blif |
-        awk -v clock="$clock" '/^\.latch/ { print $1, $2, $3, clock, $4; next } /^[^#]/ { print }' >"$3"
+    sed -e ':join' -e '/\\$/ { N; s/\\\n//; b join' -e '}' abc.blif | awk -v clock="$clock" -v prefix="${3%.blif}_" '
+        function name(word) { return word in known ? word : prefix word }
+        FNR == NR { for (place = 2; place <= NF; place++) known[$place] = 1; next }
+        /^\.latch/ { print $1, name($2), name($3), clock, $4; next }
+        /^\.names/ { for (place = 2; place <= NF; place++) $place = name($place) }
+        /^[^#]/ { print }' "$1" - >"$3"
 }
 
 # Leaves in source.blif what maps better, the text or ABC's graph of it: fewer tables where the period is no greater.
