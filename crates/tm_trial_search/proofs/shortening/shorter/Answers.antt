@@ -3,7 +3,7 @@ use Rattle.std.proofs.Common.{◌≡◌, List, Option, map, IsTrue, ◌∙◌, s
 use Rattle.tm_replay.specs.declared.label.Label.{Label}
 use Rattle.tm_replay.specs.Replays.{drop_of, HaveLost}
 use Rattle.tm_replay.specs.Faults.{IsReplayed}
-use Rattle.tm_trial_mapper.proofs.shortening.shorter.Goals as goal
+use Rattle.tm_trial_search.proofs.shortening.shorter.Goals as goal
 
 pub shorten-requires-clause-refute : goal.shorten-requires-clause-refute
 shorten-requires-clause-refute g c =
