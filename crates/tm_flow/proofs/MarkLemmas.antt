@@ -26,6 +26,11 @@ mark_only m true false h = inl h
 mark_only m false true h = inl h
 mark_only m false false h = inr refl
 
+-- a mark written in its place, where these marks stand
+pub written_in : (marks : List Marks) (i : ℕ) (f : Bool) (m old new : Marks) → At marks i m → old ≡ get_or marks i old → new ≡ with_mark old f
+    → set marks i new ≡ set marks i (with_mark m f)
+written_in marks i f m old new has is written = ap (set marks i) (written ∙ ap (λ k. with_mark k f) (is ∙ get_or_at marks i old m has))
+
 use_kept : (m : Marks) (f : Bool) → m.used ≡ true → (with_mark m f).used ≡ true
 use_kept m true h = h
 use_kept m false h = h

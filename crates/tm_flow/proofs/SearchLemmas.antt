@@ -4,7 +4,7 @@ use Rattle.std.proofs.lemmas.List.{take_more, append-nil, take_all, take-append-
 use Rattle.std.proofs.lemmas.Bool.{cases_lt}
 use Rattle.tm_flow.specs.Lists.{Has, Each, AreApart, At}
 use Rattle.tm_flow.specs.Nets.{Shape, Reaches}
-use Rattle.tm_flow.specs.Searches.{sides, sides_waiting, near, far, count_of, IsRead, IsBack, IsStep, Follows, IsGoal, IsWay, IsNumbered, IsMarked, IsUsed, Names, IsNew, Meets, IsExhausted}
+use Rattle.tm_flow.specs.Searches.{sides, sides_waiting, near, far, count_of, IsRead, IsAlong, IsBack, IsStep, Follows, IsGoal, IsWay, IsNumbered, IsMarked, IsUsed, Names, IsNew, Meets, IsExhausted, AreFirstReads}
 use Rattle.tm_flow.specs.declared.flow.Edge.{Edge}
 use Rattle.tm_flow.specs.declared.search.Marks.{Marks}
 use Rattle.tm_flow.specs.declared.search.Side.{Side}
@@ -13,7 +13,7 @@ use Rattle.tm_flow.specs.declared.search.Step.TheVariants.{Read, Cross, Return, 
 use Rattle.tm_flow.specs.declared.search.Taken.{Taken}
 use Rattle.tm_flow.specs.declared.search.Waiting.{Waiting}
 use Rattle.tm_flow.proofs.ListLemmas.{has_left, has_right, has_either, each_left, each_right, each_from, has_get, each_has, each_as, each_join, apart_push}
-use Rattle.tm_flow.proofs.PlaceLemmas.{at_left, at_either, at_has, at_after}
+use Rattle.tm_flow.proofs.PlaceLemmas.{at_left, at_either, at_has, at_after, at_within, at_same, at_some}
 use Rattle.tm_flow.proofs.Finite.{reaches_here, reaches_step}
 
 module _ {T : Type 0} where
@@ -138,44 +138,80 @@ module _ {T : Type 0} where
     count = b.count ∙ ap (λ k. k + length b.added) a.count;
   }
 
-  -- the reads of v from one index on and before another have been met
-  pub record IsReading (n : Shape T) (v : T) (depth : ℕ) (nodes : List T) (marks : List Marks) (waiting : List (Waiting T))
-      (nodes' : List T) (marks' : List Marks) (waiting' : List (Waiting T)) (from index : ℕ) : Type 0 where
-    pub meets : Meets (λ s t. IsRead n v t s) depth nodes marks waiting nodes' marks' waiting'
-    pub met : (i : ℕ) → from ≤ i → i < index → IsMarked nodes' marks' (near (n.read v i))
+  -- the side that was met last may wait as well as be in hand
+  pub meets_wait : {P : Side T → Step → Type 0} {depth : ℕ} {nodes nodes' : List T} {marks marks' : List Marks} {waiting waiting1 : List (Waiting T)}
+      (waiting2 : List (Waiting T)) → waiting2 ≡ waiting1 → Meets P depth nodes marks waiting nodes' marks' waiting1 → Meets P depth nodes marks waiting nodes' marks' waiting2
+  meets_wait {P} {depth} {nodes} {nodes'} {marks} {marks'} {waiting} waiting2 is m = subst (Meets P depth nodes marks waiting nodes' marks') (sym is) m
 
-  pub reading_first : (n : Shape T) (v : T) (depth : ℕ) (nodes : List T) (marks : List Marks) (waiting : List (Waiting T)) (from : ℕ) → IsNumbered nodes marks
-      → IsReading n v depth nodes marks waiting nodes marks waiting from from
-  reading_first n v depth nodes marks waiting from numbered = record {
+  -- no read met yet
+  pub no_reads : (n : Shape T) (v : T) (reads : List T) → reads ≡ [] → AreFirstReads n v 0 reads
+  no_reads n v reads none = subst (AreFirstReads n v 0) (sym none) (record { len = refl; each = λ i u h. absurd h })
+
+  -- one more read taken down
+  pub reads_more : (n : Shape T) (v : T) (count : ℕ) (reads reads' : List T) (u : T) → AreFirstReads n v count reads → u ≡ n.read v count → reads' ≡ reads ++ u ∷ []
+      → AreFirstReads n v (count + 1) reads'
+  reads_more n v count reads reads' u are is pushed = subst (AreFirstReads n v (count + 1)) (sym pushed) (record {
+    len = length-append reads (u ∷ []) ∙ ap (λ k. k + 1) are.len;
+    each = λ i x h. elim (at_either reads (u ∷ []) i x h) [ inl old ↦ are.each i x old | inr new ↦ by i x new.0 new.1 new.2 ];
+  })
+    where
+      by : (i : ℕ) (x : T) (d : ℕ) → i ≡ length reads + d → At (u ∷ []) d x → x ≡ n.read v i
+      by i x zero e h = let place : count ≡ i = omega (arith, are.len) in sym h ∙ is ∙ ap (n.read v) place
+      by i x (suc d) e h = absurd h
+
+  pub along_is_read : (n : Shape T) (v : T) (reads : List T) → AreFirstReads n v (n.reads v) reads → (s : Side T) (step : Step) → IsAlong reads step s → IsRead n v step s
+  along_is_read n v reads are s (Read i) h =
+      let lt : i < n.reads v = omega (arith, at_within reads i h.0 h.1, are.len) in
+      (lt, h.2 ∙ ap near (are.each i h.0 h.1))
+  along_is_read n v reads are s Cross h = absurd h
+  along_is_read n v reads are s Return h = absurd h
+  along_is_read n v reads are s (Back i) h = absurd h
+
+  -- the reads from one index on and before another have been met
+  pub record IsReading (reads : List T) (depth : ℕ) (nodes : List T) (marks : List Marks) (waiting : List (Waiting T))
+      (nodes' : List T) (marks' : List Marks) (waiting' : List (Waiting T)) (from index : ℕ) : Type 0 where
+    pub meets : Meets (λ s t. IsAlong reads t s) depth nodes marks waiting nodes' marks' waiting'
+    pub met : (i : ℕ) (u : T) → At reads i u → from ≤ i → i < index → IsMarked nodes' marks' (near u)
+
+  pub reading_first : (reads : List T) (depth : ℕ) (nodes : List T) (marks : List Marks) (waiting : List (Waiting T)) (from : ℕ) → IsNumbered nodes marks
+      → IsReading reads depth nodes marks waiting nodes marks waiting from from
+  reading_first reads depth nodes marks waiting from numbered = record {
     meets = meets_none _ depth nodes marks waiting numbered;
-    met = λ i l h. let c : ⊥ = omega arith in absurd c;
+    met = λ i u a l h. let c : ⊥ = omega arith in absurd c;
   }
 
-  pub reading_on : {n : Shape T} {v : T} {depth : ℕ} {nodes nodes1 : List T} {marks marks1 : List Marks} {waiting waiting1 : List (Waiting T)}
-      (from index : ℕ) (nodes2 : List T) (marks2 : List Marks) (waiting2 : List (Waiting T)) (side : Side T) (step : Step)
-      → index < n.reads v → side ≡ near (n.read v index) → step ≡ Read index
-      → IsReading n v depth nodes marks waiting nodes1 marks1 waiting1 from index
+  pub reading_on : {reads : List T} {depth : ℕ} {nodes nodes1 : List T} {marks marks1 : List Marks} {waiting waiting1 : List (Waiting T)}
+      (from index : ℕ) (u : T) (nodes2 : List T) (marks2 : List Marks) (waiting2 : List (Waiting T)) (side : Side T) (step : Step)
+      → At reads index u → side ≡ near u → step ≡ Read index
+      → IsReading reads depth nodes marks waiting nodes1 marks1 waiting1 from index
       → Meets (λ s t. (s ≡ side) × (t ≡ step)) depth nodes1 marks1 waiting1 nodes2 marks2 waiting2
-      → IsMarked nodes2 marks2 side → IsReading n v depth nodes marks waiting nodes2 marks2 waiting2 from (index + 1)
-  reading_on {n} {v} from index nodes2 marks2 waiting2 side step lt is_side is_step r m h = record {
-    meets = meets_on r.meets (meets_as (λ s t e. subst (λ u. IsRead n v u s) (sym (e.1 ∙ is_step)) (lt, e.0 ∙ is_side)) m);
-    met = λ i l k. elim (cases_lt i index) [
-      | inl less ↦ m.stays (near (n.read v i)) (r.met i l less)
-      | inr more ↦ let e : index ≡ i = omega arith in subst (λ j. IsMarked nodes2 marks2 (near (n.read v j))) e (subst (IsMarked nodes2 marks2) is_side h)
+      → IsMarked nodes2 marks2 side → IsReading reads depth nodes marks waiting nodes2 marks2 waiting2 from (index + 1)
+  reading_on {reads} from index u nodes2 marks2 waiting2 side step at is_side is_step r m h = record {
+    meets = meets_on r.meets (meets_as (λ s t e. subst (λ x. IsAlong reads x s) (sym (e.1 ∙ is_step)) (u, at, e.0 ∙ is_side)) m);
+    met = λ i x a l k. elim (cases_lt i index) [
+      | inl less ↦ m.stays (near x) (r.met i x a l less)
+      | inr more ↦
+          let e : index ≡ i = omega arith in
+          let is : u ≡ x = at_same reads i u x (subst (λ j. At reads j u) e at) a in
+          subst (λ y. IsMarked nodes2 marks2 (near y)) is (subst (IsMarked nodes2 marks2) is_side h)
     ];
   }
 
   -- the reads of v have been met, those from the middle on first
-  pub read_all : (n : Shape T) (v : T) (depth : ℕ) (nodes1 : List T) (marks1 : List Marks) (waiting1 : List (Waiting T)) (nodes2 : List T)
-      (marks2 : List Marks) (waiting2 : List (Waiting T)) (middle : ℕ)
-      → ((i : ℕ) → middle ≤ i → i < n.reads v → IsMarked nodes1 marks1 (near (n.read v i)))
-      → Meets (λ s t. IsRead n v t s) depth nodes1 marks1 waiting1 nodes2 marks2 waiting2
-      → ((i : ℕ) → 0 ≤ i → i < middle → IsMarked nodes2 marks2 (near (n.read v i)))
+  pub read_all : (n : Shape T) (v : T) (reads : List T) (depth : ℕ) (nodes1 : List T) (marks1 : List Marks) (waiting1 : List (Waiting T)) (nodes2 : List T)
+      (marks2 : List Marks) (waiting2 : List (Waiting T)) (middle : ℕ) → AreFirstReads n v (n.reads v) reads
+      → ((i : ℕ) (u : T) → At reads i u → middle ≤ i → i < n.reads v → IsMarked nodes1 marks1 (near u))
+      → Meets (λ s t. IsAlong reads t s) depth nodes1 marks1 waiting1 nodes2 marks2 waiting2
+      → ((i : ℕ) (u : T) → At reads i u → 0 ≤ i → i < middle → IsMarked nodes2 marks2 (near u))
       → (i : ℕ) → i < n.reads v → IsMarked nodes2 marks2 (near (n.read v i))
-  read_all n v depth nodes1 marks1 waiting1 nodes2 marks2 waiting2 middle later m earlier i lt = elim (cases_lt i middle) [
-    | inl less ↦ earlier i (omega arith) less
-    | inr more ↦ m.stays (near (n.read v i)) (later i (omega arith) lt)
-  ]
+  read_all n v reads depth nodes1 marks1 waiting1 nodes2 marks2 waiting2 middle are later m earlier i lt =
+      let within : i < length reads = omega (arith, are.len) in
+      let u : (x : T) × At reads i x = at_some reads i within in
+      subst (λ x. IsMarked nodes2 marks2 (near x)) (are.each i u.0 u.1)
+      (elim (cases_lt i middle) [
+        | inl less ↦ earlier i u.0 u.1 (omega arith) less
+        | inr more ↦ m.stays (near u.0) (later i u.0 u.1 (omega arith) lt)
+      ])
 
   -- the far sides at the beginnings of the first `index` edges have been met
   pub record IsGoingBack (edges : List (Edge T)) (depth : ℕ) (nodes : List T) (marks : List Marks) (waiting : List (Waiting T))

@@ -71,6 +71,16 @@ module _ {T : Type 0} where
   IsRead n v (Read i) q = (i < n.reads v) × (q ≡ near (n.read v i))
   IsRead n v _ q = ⊥
 
+  -- what the node reads at the indices below the count, in order
+  pub record AreFirstReads (n : Shape T) (v : T) (count : ℕ) (reads : List T) : Type 0 where
+    pub len : length reads ≡ count
+    pub each : (i : ℕ) (u : T) → At reads i u → u ≡ n.read v i
+
+  -- the step takes one of these reads, to the near side of what is read
+  abbrev pub IsAlong : List T → Step → Side T → Type 0
+  IsAlong reads (Read i) q = (u : T) × At reads i u × (q ≡ near u)
+  IsAlong reads _ q = ⊥
+
   -- the step goes back over one of the edges, to the far side of the node that it comes from
   abbrev pub IsBack : List (Edge T) → Step → Side T → Type 0
   IsBack edges (Back i) q = (e : Edge T) × Has edges e × (e.index ≡ i) × (q ≡ far e.from)
@@ -166,6 +176,11 @@ module _ {T : Type 0} where
   abbrev pub Grows : (Side T → Step → Type 0) → ℕ → Search T → Search T → Type 0
   Grows P depth old new =
       Meets P depth old.met.nodes.keys old.met.marks.items old.pending.items new.met.nodes.keys new.met.marks.items new.pending.items
+
+  -- the same, where the side that was met last may be in hand and not wait
+  abbrev pub GrowsTo : (Side T → Step → Type 0) → ℕ → Search T → Search T → Option (Waiting T) → Type 0
+  GrowsTo P depth old new hand =
+      Meets P depth old.met.nodes.keys old.met.marks.items old.pending.items new.met.nodes.keys new.met.marks.items (new.pending.items ++ option_to_list hand)
 
   -- no step leads out of the sides that have been met, and none of them is the far side of an end
   abbrev pub IsSearchedOut : Shape T → (T → List (Edge T)) → (Side T → Type 0) → Type 0

@@ -36,6 +36,8 @@ pub fn edges_into<N: LazyNet>(
     Ok(())
 }
 
+/// Few of the nodes that a search meets stand on walks, so this stays out of the search's loop.
+#[inline(never)]
 fn push_edges<N: LazyNet>(
     net: &N,
     walks: &[Vec<Edge<N::Node>>],

@@ -2,13 +2,14 @@
 // side and leave from the far side. The search meets sides, from the far side of the root on, and keeps
 // a number and marks for each node that it has met. Of the way that it came it keeps only the one that
 // it stands on. The nodes keep their numbers from one search of a root to the next.
+// What is done for each read is `inline(always)`, since a call passes a side and a result through memory.
 
-ghost use Rattle.std.specs.Prelude.{◌≡◌, ◌⊎◌, ℕ, ◌<◌, ◌≤◌, IsTrue, true, false, List, [], length, map, IfOk, OnOk};
+ghost use Rattle.std.specs.Prelude.{◌≡◌, ◌⊎◌, ℕ, ◌<◌, ◌≤◌, ◌++◌, ◌∷◌, IsTrue, true, false, List, [], length, map, option_to_list, IfSome, IfNone, IfOk, OnOk};
 ghost use Rattle.tm_flow.specs.Flows.{Leads, AreWalks, InFlow, all_edges_to};
 ghost use Rattle.tm_flow.specs.declared.flow.Edge.{Edge};
 ghost use Rattle.tm_flow.specs.Lists.{Each, At, lists_in};
 ghost use Rattle.tm_flow.specs.Nets.{Shape};
-ghost use Rattle.tm_flow.specs.Searches.{near, far, mark_of, with_mark, no_marks, unmet, with_use, IsRead, IsBack, IsStep, Follows, IsGoal, IsMarked, IsUsed, IsKnown, IsNumbered, Names, Meets, Grows, IsOutcome, is_far_met};
+ghost use Rattle.tm_flow.specs.Searches.{near, far, mark_of, with_mark, no_marks, unmet, with_use, IsRead, IsAlong, IsBack, IsStep, Follows, IsGoal, IsMarked, IsUsed, IsKnown, IsNumbered, AreFirstReads, Names, Meets, Grows, GrowsTo, IsOutcome, is_far_met};
 
 use crate::flow::{Edge, edges_into};
 use crate::net::LazyNet;
@@ -121,21 +122,14 @@ impl Marks {
         if is_far { self.far } else { self.near }
     }
 
-    fn with(self, is_far: bool) -> Self
-        ensures { result ≡ with_mark self is_far }
+    /// Writes the mark of one side alone: a whole value that is copied there would be read first.
+    fn mark(&mut self, is_far: bool)
+        ensures { self.new ≡ with_mark self.old is_far }
     {
         if is_far {
-            Marks {
-                near: self.near,
-                far: true,
-                used: self.used,
-            }
+            self.far = true;
         } else {
-            Marks {
-                near: true,
-                far: self.far,
-                used: self.used,
-            }
+            self.near = true;
         }
     }
 }
@@ -154,13 +148,14 @@ pub struct Search<T: Eq + Hash> {
     pub pending: Vec<Waiting<T>>,
 }
 
-/// The memory of searches: the search, the way that it stands on, and the edges of the flow that come
-/// to the node in hand.
+/// The memory of searches: the search, the way that it stands on, and of the node in hand the edges of
+/// the flow that come to it and what it reads.
 #[derive(Drop)]
 pub struct Memory<T: Eq + Hash> {
     pub search: Search<T>,
     pub way: Vec<Taken<T>>,
     pub edges: Vec<Edge<T>>,
+    pub reads: Vec<T>,
 }
 
 impl<T: Eq + Hash> Memory<T> {
@@ -175,6 +170,7 @@ impl<T: Eq + Hash> Memory<T> {
             },
             way: Vec::new(alloc),
             edges: Vec::new(alloc),
+            reads: Vec::new(alloc),
         }
     }
 }
@@ -206,19 +202,44 @@ pub fn find_walk<N: LazyNet>(
         memory.new.way.items) }
 {
     begin::<N>(memory, root)?;
-    while let Some(next) = memory.search.pending.pop() {
+    let mut hand = None;
+    while let Some(next) = take_up(&mut memory.search.pending, hand) {
         memory.way.truncate(next.depth);
-        memory.way.push(Taken {
-            side: next.side,
-            step: next.step,
-            number: next.number,
-        })?;
+        memory.way.push(taken_up(next))?;
         if is_goal(net, next.side) {
             return Ok(Searched::Walk);
         }
-        meet_next(net, walks, memory, next.side, next.number)?;
+        hand = meet_next(net, walks, memory, next.side, next.number)?;
     }
     Ok(Searched::Nowhere)
+}
+
+/// The side whose steps are taken next: the one in hand, or else the one that was met last of those that wait.
+fn take_up<T: Copy>(pending: &mut Vec<Waiting<T>>, hand: Option<Waiting<T>>) -> Option<Waiting<T>>
+    ensures next { IfSome result (λ next. pending.old.items ++ option_to_list hand
+        ≡ pending.new.items ++ next ∷ []) }
+    ensures over { IfNone result (pending.old.items ++ option_to_list hand ≡ []) }
+{
+    match hand {
+        Some(next) => Some(next),
+        None => pending.pop(),
+    }
+}
+
+/// The side as the way keeps it. It is built of its fields: a `Side` that is copied whole takes the bytes
+/// beside them along, through each value that it passes.
+#[inline(always)]
+fn taken_up<T>(next: Waiting<T>) -> Taken<T>
+    ensures { result ≡ record { side = next.side; step = next.step; number = next.number } }
+{
+    Taken {
+        side: Side {
+            node: next.side.node,
+            is_far: next.side.is_far,
+        },
+        step: next.step,
+        number: next.number,
+    }
 }
 
 /// A search that has met the far side of the root alone.
@@ -267,6 +288,7 @@ pub fn is_far_met<N: LazyNet>(met: &Met<N::Node>, node: N::Node) -> bool
 }
 
 /// The number of the node, which is the next one where it has none yet.
+#[inline(always)]
 pub fn number_of<N: LazyNet>(met: &mut Met<N::Node>, node: N::Node) -> Result<usize, NoMemory>
     requires { IsNumbered met.old.nodes.keys met.old.marks.items }
     ensures { IfOk result (λ number. Names node number met.old.nodes.keys met.old.marks.items
@@ -284,6 +306,7 @@ pub fn number_of<N: LazyNet>(met: &mut Met<N::Node>, node: N::Node) -> Result<us
     }
 }
 
+#[inline(always)]
 fn meet_at<N: LazyNet>(
     search: &mut Search<N::Node>,
     side: Side<N::Node>,
@@ -307,6 +330,7 @@ fn meet_at<N: LazyNet>(
 }
 
 /// Meets the side, whose node has a number already.
+#[inline(always)]
 fn meet<N: LazyNet>(search: &mut Search<N::Node>, next: Waiting<N::Node>) -> Result<(), NoMemory>
     requires numbered { IsNumbered search.old.met.nodes.keys search.old.met.marks.items }
     requires number { At search.old.met.nodes.keys next.number next.side.node }
@@ -315,29 +339,47 @@ fn meet<N: LazyNet>(search: &mut Search<N::Node>, next: Waiting<N::Node>) -> Res
     ensures met { OnOk result (IsMarked search.new.met.nodes.keys search.new.met.marks.items
         next.side) }
 {
-    let marks = search.met.marks[next.number];
-    if marks.has(next.side.is_far) {
-        return Ok(());
+    if let Some(new) = meet_in_hand::<N>(search, next) {
+        search.pending.push(new)?;
     }
-    search.met.marks[next.number] = marks.with(next.side.is_far);
-    search.pending.push(next)?;
     Ok(())
 }
 
-/// Meets each side that one step leads to from this one, which is the last of the way.
+/// Meets the side, whose node has a number already, and answers it where it was not met before: it is in
+/// hand then, and does not wait.
+fn meet_in_hand<N: LazyNet>(
+    search: &mut Search<N::Node>,
+    next: Waiting<N::Node>,
+) -> Option<Waiting<N::Node>>
+    requires numbered { IsNumbered search.old.met.nodes.keys search.old.met.marks.items }
+    requires number { At search.old.met.nodes.keys next.number next.side.node }
+    ensures meets { GrowsTo (λ s t. (s ≡ next.side) × (t ≡ next.step)) next.depth
+        search.old search.new result }
+    ensures met { IsMarked search.new.met.nodes.keys search.new.met.marks.items next.side }
+{
+    let marks = search.met.marks[next.number];
+    if marks.has(next.side.is_far) {
+        return None;
+    }
+    search.met.marks[next.number].mark(next.side.is_far);
+    Some(next)
+}
+
+/// Meets each side that one step leads to from this one, which is the last of the way. Where a node is
+/// crossed its far side is in hand afterwards, since it is the one whose steps are taken next.
 fn meet_next<N: LazyNet>(
     net: &N,
     walks: &[Vec<Edge<N::Node>>],
     memory: &mut Memory<N::Node>,
     side: Side<N::Node>,
     number: usize,
-) -> Result<(), NoMemory>
+) -> Result<Option<Waiting<N::Node>>, NoMemory>
     requires walks { AreWalks (N.shape net.now) (lists_in walks.now) }
     requires numbered { IsNumbered memory.old.search.met.nodes.keys memory.old.search.met.marks.items }
     requires number { At memory.old.search.met.nodes.keys number side.node }
     requires used { (e : Edge N.Node) → InFlow (lists_in walks.now) e → IsUsed
         memory.old.search.met.nodes.keys memory.old.search.met.marks.items e.to }
-    ensures meets { OnOk result (Grows (λ s t. IsStep (N.shape net.now)
+    ensures meets { IfOk result (GrowsTo (λ s t. IsStep (N.shape net.now)
         (all_edges_to N.Node.eq side.node (lists_in walks.now)) side t s)
         (length memory.old.way.items) memory.old.search memory.new.search) }
     ensures follows { OnOk result (Follows (N.shape net.now)
@@ -347,7 +389,15 @@ fn meet_next<N: LazyNet>(
 {
     let depth = memory.way.len();
     if side.is_far {
-        return meet_from_far(net, &mut memory.search, side.node, number, depth);
+        meet_from_far(
+            net,
+            &mut memory.search,
+            &mut memory.reads,
+            side.node,
+            number,
+            depth,
+        )?;
+        return Ok(None);
     }
     let is_used = memory.search.met.marks[number].used;
     edges_into(net, walks, is_used, side.node, &mut memory.edges)?;
@@ -365,6 +415,7 @@ fn meet_next<N: LazyNet>(
 fn meet_from_far<N: LazyNet>(
     net: &N,
     search: &mut Search<N::Node>,
+    reads: &mut Vec<N::Node>,
     node: N::Node,
     number: usize,
     depth: usize,
@@ -383,7 +434,7 @@ fn meet_from_far<N: LazyNet>(
         depth,
     };
     meet::<N>(search, back)?;
-    meet_reads(net, search, node, depth)?;
+    meet_reads(net, search, reads, node, depth)?;
     Ok(())
 }
 
@@ -391,6 +442,7 @@ fn meet_from_far<N: LazyNet>(
 fn meet_reads<N: LazyNet>(
     net: &N,
     search: &mut Search<N::Node>,
+    reads: &mut Vec<N::Node>,
     node: N::Node,
     depth: usize,
 ) -> Result<(), NoMemory>
@@ -402,15 +454,34 @@ fn meet_reads<N: LazyNet>(
         (near ((N.shape net.now).read node i))) }
 {
     let count = net.reads(node);
-    let middle = up_to_lowest(net, node, count);
-    meet_range(net, search, node, depth, middle, count)?;
-    meet_range(net, search, node, depth, 0, middle)?;
+    take_reads(net, node, count, reads)?;
+    let taken = reads.as_slice();
+    let middle = up_to_lowest(net, taken, count);
+    meet_range::<N>(search, taken, depth, middle, count)?;
+    meet_range::<N>(search, taken, depth, 0, middle)?;
     Ok(())
 }
 
-/// How many reads there are up to the lowest of them, the one of the least rank.
-fn up_to_lowest<N: LazyNet>(net: &N, node: N::Node, count: u32) -> u32
-    requires { count ≡ (N.shape net.now).reads node }
+/// Takes down what the node reads at the indices below the count: the net is asked once for each.
+fn take_reads<N: LazyNet>(
+    net: &N,
+    node: N::Node,
+    count: u32,
+    reads: &mut Vec<N::Node>,
+) -> Result<(), NoMemory>
+    requires { count ≤ (N.shape net.now).reads node }
+    ensures { OnOk result (AreFirstReads (N.shape net.now) node count reads.new.items) }
+{
+    reads.clear();
+    for index in 0..count {
+        reads.push(net.read(node, index))?;
+    }
+    Ok(())
+}
+
+/// How many of the reads there are up to the lowest of them, the one of the least rank.
+fn up_to_lowest<N: LazyNet>(net: &N, reads: &[N::Node], count: u32) -> u32
+    requires { count ≡ length reads.now }
     ensures { result ≤ count }
 {
     if count < 2 {
@@ -419,7 +490,7 @@ fn up_to_lowest<N: LazyNet>(net: &N, node: N::Node, count: u32) -> u32
     let mut up_to = 0;
     let mut lowest = 0;
     for index in 0..count {
-        let rank = net.rank(net.read(node, index));
+        let rank = net.rank(reads[index as usize]);
         if up_to == 0 || rank < lowest {
             lowest = rank;
             up_to = index + 1;
@@ -428,25 +499,23 @@ fn up_to_lowest<N: LazyNet>(net: &N, node: N::Node, count: u32) -> u32
     up_to
 }
 
-/// Meets what is read at the indices of a range.
+/// Meets these reads at the indices of a range.
+#[inline(always)]
 fn meet_range<N: LazyNet>(
-    net: &N,
     search: &mut Search<N::Node>,
-    node: N::Node,
+    reads: &[N::Node],
     depth: usize,
     from: u32,
     to: u32,
 ) -> Result<(), NoMemory>
     requires numbered { IsNumbered search.old.met.nodes.keys search.old.met.marks.items }
-    requires within { to ≤ (N.shape net.now).reads node }
-    ensures meets { OnOk result (Grows (λ s t. IsRead (N.shape net.now) node t s) depth
-        search.old search.new) }
-    ensures met { OnOk result ((i : ℕ) → from ≤ i → i < to
-        → IsMarked search.new.met.nodes.keys search.new.met.marks.items
-        (near ((N.shape net.now).read node i))) }
+    requires within { to ≤ length reads.now }
+    ensures meets { OnOk result (Grows (λ s t. IsAlong reads.now t s) depth search.old search.new) }
+    ensures met { OnOk result ((i : ℕ) (u : N.Node) → At reads.now i u → from ≤ i → i < to
+        → IsMarked search.new.met.nodes.keys search.new.met.marks.items (near u)) }
 {
     for index in from..to {
-        let side = Side::near(net.read(node, index));
+        let side = Side::near(reads[index as usize]);
         meet_at::<N>(search, side, Step::Read(index), depth)?;
     }
     Ok(())
@@ -460,10 +529,10 @@ fn meet_from_near<N: LazyNet>(
     node: N::Node,
     number: usize,
     depth: usize,
-) -> Result<(), NoMemory>
+) -> Result<Option<Waiting<N::Node>>, NoMemory>
     requires numbered { IsNumbered search.old.met.nodes.keys search.old.met.marks.items }
     requires number { At search.old.met.nodes.keys number node }
-    ensures meets { OnOk result (Grows (λ s t. IsStep (N.shape net.now) edges.now (near node) t s)
+    ensures meets { IfOk result (GrowsTo (λ s t. IsStep (N.shape net.now) edges.now (near node) t s)
         depth search.old search.new) }
     ensures follows { OnOk result (Follows (N.shape net.now) edges.now
         (IsMarked search.new.met.nodes.keys search.new.met.marks.items) (near node)) }
@@ -476,9 +545,9 @@ fn meet_from_near<N: LazyNet>(
             number,
             depth,
         };
-        meet::<N>(search, across)?;
+        return Ok(meet_in_hand::<N>(search, across));
     }
-    Ok(())
+    Ok(None)
 }
 
 fn can_cross<N: LazyNet>(net: &N, edges: &[Edge<N::Node>], node: N::Node) -> bool
