@@ -3,9 +3,12 @@ pub mod ServedLemmas
 pub mod LabelLemmas
 pub mod KeepLemmas
 pub mod FallLemmas
+pub mod KnownLemmas
 pub mod StepLemmas
 pub mod TurnLemmas
 pub mod WatchLemmas
+pub mod OrderLemmas
 pub mod QueueLemmas
 pub mod NeedLemmas
 pub mod WorkLemmas
+pub mod WayLemmas

@@ -4,3 +4,6 @@ pub mod Watched
 pub mod Steps
 pub mod Working
 pub mod Keeping
+pub mod Ways
+pub mod Lasts
+pub mod Orders

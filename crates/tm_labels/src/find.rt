@@ -1,22 +1,26 @@
 // What becomes of a gate that is visited: a cut of it, or walks that show that it has none.
 
-ghost use Rattle.std.specs.Prelude.{◌≡◌, ℕ, ◌<◌, ◌≤◌, false, true, List, length, map, All, Contains, IfOk, IfSome};
+ghost use Rattle.std.specs.Prelude.{◌≡◌, ℕ, ◌-◌, ◌<◌, ◌≤◌, false, true, List, length, map, All, Contains, IfOk, IfSome};
 ghost use Rattle.tm_circuit.specs.Plain.{widest};
 ghost use Rattle.tm_circuit.specs.Chain.{IsGate};
-ghost use Rattle.tm_flow.specs.Lists.{lists_in};
+ghost use Rattle.tm_flow.specs.Lists.{Each, lists_in};
+ghost use Rattle.tm_flow.specs.Nets.{IsIndexWalk};
 ghost use Rattle.tm_unroll.specs.Nodes.{node_at};
+ghost use Rattle.tm_replay.specs.Served.{served};
 ghost use Rattle.tm_replay.specs.Replays.{drop_of};
 ghost use Rattle.tm_merge.specs.Cuts.{HaveCovers};
 ghost use Rattle.tm_labels.specs.Marks.{is_marked};
 ghost use Rattle.tm_inherit.specs.Refusals.{IsRefusal};
 ghost use Rattle.tm_labels.specs.Steps.{HaveBarriers, IsStep};
 
+use crate::known::known_walks;
 use crate::lasts::Lasts;
+use crate::searches::Searches;
 use smallvec::SmallVec;
 use std::alloc::Global;
 use tm_bits::NoMemory;
 use tm_circuit::Circuit;
-use tm_flow::{Found, Searcher};
+use tm_flow::Found;
 use tm_inherit::{Aim, Refusal, inherit, latest_read};
 use tm_merge::merge;
 use tm_replay::{Label, Lowering, Served, ServedFrom};
@@ -36,7 +40,7 @@ pub enum Step {
 /// is served after the arrival alone; otherwise they are searched for where merging finds nothing.
 pub fn find(
     alloc: Global,
-    searcher: &mut Searcher<Node>,
+    searches: &mut Searches,
     circuit: &Circuit,
     labels: &[Option<Label>],
     cuts: &[SmallVec<Node, 8>],
@@ -74,7 +78,7 @@ pub fn find(
     )?;
     match merged {
         Some(leaves) => Ok(Step::Cut(leaves)),
-        None => search(alloc, searcher, circuit, labels, aim),
+        None => search(alloc, searches, circuit, labels, drops, lasts, aim),
     }
 }
 
@@ -106,12 +110,15 @@ fn taken_over(
     inherit(alloc, circuit, labels, aim, &read, last)
 }
 
-/// A cut before the arrival or walks, by one search.
+/// A cut before the arrival or walks, by one search. It starts from the walks of the last drop of the gate at the lag, as far as they
+/// are still apart.
 fn search(
     alloc: Global,
-    searcher: &mut Searcher<Node>,
+    searches: &mut Searches,
     circuit: &Circuit,
     labels: &[Option<Label>],
+    drops: &[Lowering],
+    lasts: &Lasts,
     aim: &Aim,
 ) -> Result<Step, NoMemory>
     requires few { aim.now.k ≤ 8 }
@@ -120,6 +127,35 @@ fn search(
     requires some { 1 ≤ aim.now.arrival }
     requires most { aim.now.arrival ≤ aim.now.target }
     requires sized { length labels.now ≡ length circuit.now.drives }
+    requires drops { HaveBarriers aim.now.base circuit.now aim.now.k labels.now (map drop_of drops.now) }
+    ensures { IfOk result (IsStep aim.now.base circuit.now aim.now.k labels.now aim.now.arrival aim.now.target
+        (node_at aim.now.lag aim.now.gate)) }
+{
+    let root = Node {
+        signal: aim.gate,
+        advance: aim.lag,
+    };
+    let known = known_walks(alloc, drops, lasts, root)?;
+    search_from(alloc, searches, circuit, labels, aim, &known)
+}
+
+/// The same from walks of the gate at the lag.
+fn search_from(
+    alloc: Global,
+    searches: &mut Searches,
+    circuit: &Circuit,
+    labels: &[Option<Label>],
+    aim: &Aim,
+    known: &[Vec<u32>],
+) -> Result<Step, NoMemory>
+    requires few { aim.now.k ≤ 8 }
+    requires gate { IsGate circuit.now.drives aim.now.gate }
+    requires lag { aim.now.lag < 256 }
+    requires some { 1 ≤ aim.now.arrival }
+    requires most { aim.now.arrival ≤ aim.now.target }
+    requires sized { length labels.now ≡ length circuit.now.drives }
+    requires known { Each (IsIndexWalk (served aim.now.base circuit.now labels.now (aim.now.arrival - 1))
+        (node_at aim.now.lag aim.now.gate)) (lists_in known.now) }
     ensures { IfOk result (IsStep aim.now.base circuit.now aim.now.k labels.now aim.now.arrival aim.now.target
         (node_at aim.now.lag aim.now.gate)) }
 {
@@ -137,7 +173,11 @@ fn search(
         signal: aim.gate,
         advance: aim.lag,
     };
-    match searcher.cut_or_walks(alloc, &net, root, u32::from(aim.k))? {
+    searches.made = searches.made.saturating_add(1);
+    match searches
+        .searcher
+        .cut_or_walks_from(alloc, &net, root, u32::from(aim.k), known)?
+    {
         Found::Cut(nodes) => Ok(Step::Cut(in_order(alloc, &nodes)?)),
         Found::Walks(walks) => Ok(Step::Refused(Refusal {
             arrival: aim.arrival,

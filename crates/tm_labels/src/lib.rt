@@ -6,11 +6,13 @@
 mod cuts;
 mod find;
 mod first;
+mod known;
 mod lasts;
 mod lost;
 mod marks;
 mod order;
 mod queue;
+mod searches;
 mod settled;
 mod settling;
 mod watcher;

@@ -1,6 +1,10 @@
 // The order in which gates that wait are looked for. Nothing rests on it: whoever follows it looks whether a gate waits at all.
 
-ghost use Rattle.std.specs.Prelude.{◌<◌, length, All};
+ghost use Rattle.std.specs.Prelude.{◌≡◌, ◌≢◌, ℕ, ◌<◌, true, length, All, Contains, IfOk, IfSome, OnOk};
+ghost use Rattle.tm_circuit.specs.Plain.{Plain};
+ghost use Rattle.tm_labels.specs.Marks.{is_marked};
+ghost use Rattle.tm_labels.specs.Orders.{places_in, IsNewOrder, KeepsWays, AddsPlaces, PutsAhead};
+ghost use Rattle.tm_labels.specs.Ways.{IsStepOn, AreStepsOn};
 
 use crate::marks::{is_marked, label_of};
 use std::alloc::Global;
@@ -44,7 +48,9 @@ impl Order {
         circuit: &Circuit,
         foreseen: Vec<u8>,
         towards: Vec<u32>,
-    ) -> Result<Order, NoMemory> {
+    ) -> Result<Order, NoMemory>
+        ensures { IfOk result (IsNewOrder foreseen.items towards.items) }
+    {
         Ok(Order {
             entries: BinaryHeap::with_capacity(alloc, circuit.signals() as usize)?,
             foreseen,
@@ -61,6 +67,8 @@ impl Order {
         gate: Signal,
     ) -> Result<(), NoMemory>
         requires { gate < length circuit.now.drives }
+        ensures adds { AddsPlaces self.old self.new }
+        ensures has { OnOk result (Contains (places_in self.new) gate) }
     {
         let entry = self.entry_of(circuit, labels, gate);
         self.entries.push(entry)?;
@@ -75,6 +83,8 @@ impl Order {
         gates: &[Signal],
     ) -> Result<(), NoMemory>
         requires { All (λ g. g < length circuit.now.drives) gates.now }
+        ensures adds { AddsPlaces self.old self.new }
+        ensures have { OnOk result ((g : ℕ) → Contains gates.now g → Contains (places_in self.new) g) }
     {
         for gate in gates {
             self.add(circuit, labels, *gate)?;
@@ -85,21 +95,39 @@ impl Order {
     /// The label of the gate that came first has fallen. Without room for its new place it has none.
     pub fn fall(&mut self, circuit: &Circuit, labels: &[Option<Label>], gate: Signal)
         requires { gate < length circuit.now.drives }
+        ensures others { (g : ℕ) → g ≢ gate → Contains (places_in self.old) g → Contains (places_in self.new) g }
+        ensures ways { KeepsWays self.old self.new }
     {
-        if self.entries.peek().map(|entry| entry.gate) == Some(gate) {
-            let _ = self.entries.pop();
-        }
+        self.take_first(gate);
         let _ = self.add(circuit, labels, gate);
     }
 
+    /// The first place goes where a gate has it.
+    fn take_first(&mut self, gate: Signal)
+        ensures others { (g : ℕ) → g ≢ gate → Contains (places_in self.old) g → Contains (places_in self.new) g }
+        ensures ways { KeepsWays self.old self.new }
+    {
+        if let Some(entry) = self.entries.peek() {
+            if entry.gate == gate {
+                let _ = self.entries.pop();
+            }
+        }
+    }
+
     /// A gate has lost its label, so that those that lead from it to an output lose theirs: they come first.
-    pub fn lose(&mut self, gate: Signal) {
+    pub fn lose(&mut self, gate: Signal)
+        ensures { PutsAhead gate self.old self.new }
+    {
         let next = self.towards.get(gate.0 as usize).copied().unwrap_or(NONE);
         self.ahead = if next == gate.0 { NONE } else { next };
     }
 
     /// The first gate of the order that waits.
-    pub fn first(&mut self, queued: &[bool]) -> Option<Signal> {
+    pub fn first(&mut self, queued: &[bool]) -> Option<Signal>
+        ensures waits { IfSome result (λ gate. is_marked queued.now gate ≡ true) }
+        ensures keeps { (g : ℕ) → is_marked queued.now g ≡ true → Contains (places_in self.old) g → Contains (places_in self.new) g }
+        ensures ways { KeepsWays self.old self.new }
+    {
         if is_marked(queued, Signal(self.ahead)) {
             return Some(Signal(self.ahead));
         }
@@ -116,6 +144,7 @@ impl Order {
     /// The place of a gate under labels. A gate without a label comes first, since it leaves at once.
     fn entry_of(&self, circuit: &Circuit, labels: &[Option<Label>], gate: Signal) -> Entry
         requires { gate < length circuit.now.drives }
+        ensures { result.gate ≡ gate }
     {
         let early = u32::MAX - circuit.rank(gate);
         let Some(label) = label_of(labels, gate) else {
@@ -142,15 +171,12 @@ impl Order {
 
 /// For each gate that leads to an output one that reads it, perhaps behind latches, and is nearer to an output, or the gate itself
 /// where an output has it as its source.
-pub fn towards_outputs(alloc: Global, circuit: &Circuit) -> Result<Vec<u32>, NoMemory> {
+pub fn towards_outputs(alloc: Global, circuit: &Circuit) -> Result<Vec<u32>, NoMemory>
+    ensures { IfOk result (λ towards. AreStepsOn circuit.now towards.items) }
+{
     let mut towards = vec![in alloc; NONE; circuit.signals() as usize]?;
     let mut found = Vec::new(alloc);
-    let _sound = circuit.signals();
-    for output in circuit.outputs() {
-        if let Source::Gate(gate) = circuit.source(*output) {
-            find(&mut towards, &mut found, gate, gate)?;
-        }
-    }
+    find_outputs(circuit, &mut towards, &mut found)?;
     for place in 0..circuit.signals() as usize {
         let Some(gate) = found.get(place).copied() else {
             break;
@@ -160,13 +186,34 @@ pub fn towards_outputs(alloc: Global, circuit: &Circuit) -> Result<Vec<u32>, NoM
     Ok(towards)
 }
 
+/// The sources of the outputs lead to themselves.
+fn find_outputs(
+    circuit: &Circuit,
+    towards: &mut [u32],
+    found: &mut Vec<Signal>,
+) -> Result<(), NoMemory>
+    requires { AreStepsOn circuit.now towards.old }
+    ensures { OnOk result (AreStepsOn circuit.now towards.new) }
+{
+    let _sound = circuit.signals();
+    for output in circuit.outputs() {
+        if let Source::Gate(gate) = circuit.source(*output) {
+            find(towards, found, gate, gate)?;
+        }
+    }
+    Ok(())
+}
+
 /// The sources of the pins of a gate lead to it.
 fn find_sources(
     circuit: &Circuit,
     towards: &mut [u32],
     found: &mut Vec<Signal>,
     gate: Signal,
-) -> Result<(), NoMemory> {
+) -> Result<(), NoMemory>
+    requires { AreStepsOn circuit.now towards.old }
+    ensures { OnOk result (AreStepsOn circuit.now towards.new) }
+{
     let _sound = circuit.signals();
     if gate.0 >= circuit.signals() {
         return Ok(());
@@ -188,12 +235,13 @@ fn find(
     found: &mut Vec<Signal>,
     gate: Signal,
     to: Signal,
-) -> Result<(), NoMemory> {
-    if let Some(at) = towards.get_mut(gate.0 as usize) {
-        if *at == NONE {
-            found.push(gate)?;
-            *at = to.0;
-        }
+) -> Result<(), NoMemory>
+    ensures { OnOk result ((c : Plain) → AreStepsOn c towards.old → IsStepOn c gate to → AreStepsOn c towards.new) }
+{
+    let place = gate.0 as usize;
+    if place < towards.len() && towards[place] == NONE {
+        found.push(gate)?;
+        towards[place] = to.0;
     }
     Ok(())
 }

@@ -69,8 +69,8 @@ impl Queue {
         ensures first { MatchOption result (IsUnmarked self.old) (λ g. is_marked self.old g ≡ true) }
     {
         match self.order.first(&self.queued) {
-            Some(gate) if is_marked(&self.queued, gate) => Some(gate),
-            Some(_) | None => first_marked(&self.queued),
+            Some(gate) => Some(gate),
+            None => first_marked(&self.queued),
         }
     }
 

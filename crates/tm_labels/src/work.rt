@@ -19,13 +19,13 @@ use crate::lasts::Lasts;
 use crate::marks::{is_marked, label_of};
 use crate::order::Order;
 use crate::queue::Queue;
+use crate::searches::Searches;
 use crate::settled::Settled;
 use smallvec::SmallVec;
 use std::alloc::Global;
 use std::marker::Model;
 use tm_bits::NoMemory;
 use tm_circuit::{Circuit, Signal};
-use tm_flow::Searcher;
 use tm_inherit::Aim;
 use tm_merge::greatest_lags;
 use tm_replay::{Label, Lowering};
@@ -48,7 +48,7 @@ pub struct Work<'a> {
     lasts: Lasts,
     cuts: Cuts<'a>,
     queue: Queue,
-    searcher: Searcher<Node>,
+    searches: Searches,
 }
 
 impl<'a> Model for Work<'a> {
@@ -120,7 +120,7 @@ impl<'a> Work<'a> {
             lasts,
             cuts,
             queue,
-            searcher: Searcher::new(alloc),
+            searches: Searches::new(alloc),
         })
     }
 
@@ -155,6 +155,12 @@ impl<'a> Work<'a> {
         ensures working { IsWorking self.now }
     {
         &self.drops
+    }
+
+    /// How many searches for a cut or for walks were made: those visits in which merging found no cut and no walks were taken over.
+    /// Nothing is promised of this number.
+    pub fn searches(&self) -> u64 {
+        self.searches.made
     }
 
     /// One turn: `false` where the queue is empty. Else one gate leaves the queue, or one drop is added, which may bring gates into
@@ -199,7 +205,7 @@ impl<'a> Work<'a> {
         };
         find(
             self.alloc,
-            &mut self.searcher,
+            &mut self.searches,
             self.cuts.circuit(),
             &self.labels,
             self.cuts.leaves(),

@@ -25,7 +25,8 @@ source_serves labels Ring = true
 -- advance where its source serves it, and a gate where its label does.
 abbrev pub is_served_of : ℕ → Drive → List Drive → List (Option TwoLabel) → ℕ → TwoNode → Bool
 is_served_of back input drives labels within x = int_le x.advance (pos 0)
-is_served_of back (latch next init) drives labels within x = int_eq x.advance (floor back) && source_serves labels (source_of drives x.signal)
+is_served_of back (latch next init) drives labels within x =
+    int_eq x.advance (floor back) && source_serves labels (source_of drives x.signal)
 is_served_of back (gate pins cover) drives labels within x = label_serves (label_in labels x.signal) x.advance within
 
 -- Whether a node is served within a number.

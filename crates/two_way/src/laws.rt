@@ -20,7 +20,8 @@ pub fn two_ways_stand_on_a_base()
         → (raised : List Table) × (tables ≡ map (two_table back) raised) }
     ensures least { (c : Plain) (k d back period : ℕ) → IsTwoWayLeast c k d back period
         ↔ IsLeastPeriodFrom back (need_of back c) c k (d + back) period }
-    ensures refuted { (c : Plain) (k d back target : ℕ) (drops : List PlainDrop) → RefutesFrom back (need_of back c) c k (d + back) target drops
+    ensures refuted { (c : Plain) (k d back target : ℕ) (drops : List PlainDrop)
+        → RefutesFrom back (need_of back c) c k (d + back) target drops
         → Refutes c k d back target (map (two_drop back) drops) }
 {}
 

@@ -1,29 +1,20 @@
--- A cut in order, or digits.
-use Rattle.std.proofs.Common.{ℕ, ◌-◌, List, Global, subst, arith}
-use Rattle.std.specs.Prelude.{Contains, Vec}
-use Rattle.tm_flow.specs.Lists.{lists_in}
-use Rattle.tm_flow.specs.Cuts.{IsCut}
-use Rattle.tm_flow.specs.Founds.{IsAnswer}
-use Rattle.tm_flow.specs.declared.net.Found.{Found}
-use Rattle.tm_unroll.specs.declared.node.Node.{Node}
+-- The walks of a drop are walks of the net that is searched.
+use Rattle.std.proofs.Common.{ℕ, ◌-◌, List, Global, map, sym, subst}
+use Rattle.std.specs.Prelude.{Vec}
+use Rattle.tm_flow.specs.Lists.{Each, lists_in}
+use Rattle.tm_flow.specs.Nets.{IsIndexWalk}
 use Rattle.tm_unroll.specs.Nodes.{node_at}
-use Rattle.tm_unroll.specs.Replaced.{IsInOrder}
+use Rattle.tm_replay.specs.Replays.{drop_of}
 use Rattle.tm_replay.specs.Served.{served}
-use Rattle.tm_labels.proofs.StepLemmas.{barrier_digits, cut_in_order}
+use Rattle.tm_labels.proofs.KnownLemmas.{known_are_walks}
 use Rattle.tm_labels.proofs.find.search.Goals as goal
 
-pub digit_lists-requires : goal.digit_lists-requires
-digit_lists-requires c w stands =
+pub search_from-requires-clause-known : goal.search_from-requires-clause-known
+search_from-requires-clause-known c =
     let a = c.args.aim.now in
-    let barrier = subst (λ (f : Found Node). IsAnswer (served a.base c.args.circuit.now c.args.labels.now (a.arrival - 1)) (node_at a.lag a.gate) c.from.result f) c.in-Walks.is c.in_ok-nodes.ensures in
-    barrier_digits a.base c.args.circuit.now c.signals-sound.ensures.sound c.args.labels.now (a.arrival - 1) (node_at a.lag a.gate) c.from.result (lists_in c.in-Walks.walks.items) barrier w
-    (subst (λ (vs : List (Vec ℕ Global)). Contains (lists_in vs) w) c.deref-in-Walks.ensures.value stands)
-
-pub returns-in_ok-in_order-in-Cut : goal.returns-in_ok-in_order-in-Cut
-returns-in_ok-in_order-in-Cut c =
-    let a = c.args.aim.now in
-    let net = served a.base c.args.circuit.now c.args.labels.now (a.arrival - 1) in
-    let cut = subst (λ (f : Found Node). IsAnswer net (node_at a.lag a.gate) c.from.result f) c.in-Cut.is c.in_ok-nodes.ensures in
-    cut_in_order a.base c.args.circuit.now c.signals-sound.ensures.sound c.args.labels.now (a.arrival - 1) a.k a.gate a.lag c.in-Cut.nodes.items c.in_ok-in_order-in-Cut.field-0.items c.requires.gate
-    (omega (arith, c.requires.lag)) (subst (λ k. IsCut net (node_at a.lag a.gate) k c.in-Cut.nodes.items) c.from.ensures cut)
-    (subst (λ (ns : List Node). IsInOrder ns c.in_ok-in_order-in-Cut.field-0.items) c.deref.ensures.value c.in_ok-in_order-in-Cut.ensures.order)
+    let circuit = c.args.circuit.now in
+    let labels = c.args.labels.now in
+    let within = a.arrival - 1 in
+    let root = node_at a.lag a.gate in
+    subst (λ (vs : List (Vec ℕ Global)). Each (IsIndexWalk (served a.base circuit labels within) root) (lists_in vs)) (sym c.deref.ensures.value)
+    (known_are_walks a.base circuit a.k labels (map drop_of c.args.drops.now) within root (lists_in c.in_ok-known.known.items) c.requires.drops c.in_ok-known.ensures)

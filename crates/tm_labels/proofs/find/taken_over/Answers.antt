@@ -6,4 +6,4 @@ use Rattle.tm_labels.proofs.find.taken_over.Goals as goal
 
 pub inherit-requires-clause-last : goal.inherit-requires-clause-last
 inherit-requires-clause-last c x is =
-    c.requires.drops (drop_of x.now) (subst (λ (o : Option _). IfSome o (λ d. Contains (map drop_of c.args.drops.now) (drop_of d.now))) is c.last-last.ensures)
+    c.requires.drops (drop_of x.now) (subst (λ (o : Option _). IfSome o (λ d. Contains (map drop_of c.args.drops.now) (drop_of d.now))) is c.last-last.ensures.stands)
