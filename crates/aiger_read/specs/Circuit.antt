@@ -67,7 +67,8 @@ has_zero literals = list_any (λ literal. literal == 0) literals
 abbrev pub gate_of : List ℕ → List ℕ → Drive
 gate_of variables literals =
     if has_zero literals then gate [] (record { on = true; rows = [] })
-    else gate (map (λ literal. signal_in variables (variable_of literal)) (asking literals)) (record { on = true; rows = map place_for (asking literals) ∷ [] })
+    else gate (map (λ literal. signal_in variables (variable_of literal)) (asking literals))
+    (record { on = true; rows = map place_for (asking literals) ∷ [] })
 
 -- Whether the next literal of a latch is one that no signal has, so that a gate is made for it.
 abbrev pub is_made : ℕ → Bool

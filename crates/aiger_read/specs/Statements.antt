@@ -90,7 +90,8 @@ abbrev pub has_unknown_reset : Role → List ℕ → Bool
 has_unknown_reset role numbers = has_reset role numbers && slice_index numbers 2 == slice_index numbers 0
 
 abbrev pub has_bad_reset : Role → List ℕ → Bool
-has_bad_reset role numbers = has_reset role numbers && not (nat_le (slice_index numbers 2) 1) && not (slice_index numbers 2 == slice_index numbers 0)
+has_bad_reset role numbers =
+    has_reset role numbers && not (nat_le (slice_index numbers 2) 1) && not (slice_index numbers 2 == slice_index numbers 0)
 
 -- The fault of a line by its numbers, where these variables were defined before.
 unfoldable pub fault_in_line : Header → List ℕ → Role → List ℕ → Option AigerKind

@@ -24,7 +24,8 @@ body_of lines = statements (header_of lines) lines (counted (header_of lines))
 -- The circuit that lines spell.
 unfoldable pub spelled_by : Limits → List (List ℕ) → Plain
 spelled_by limits lines =
-    circuit_of limits.name (header_of lines) (names_given (header_of lines) (symbol_lines (header_of lines) lines)) (sections_in (body_of lines))
+    circuit_of limits.name (header_of lines) (names_given (header_of lines) (symbol_lines (header_of lines) lines))
+    (sections_in (body_of lines))
 
 -- ---- faults of the whole
 

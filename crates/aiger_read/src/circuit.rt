@@ -82,7 +82,8 @@ fn spelled(
     requires said { IsSaid header.now (sections_of sections.now) (maybe_texts given.now) }
     ensures circuit { IfOk result (λ c. c ≡ circuit_spelled name header.now (maybe_texts given.now) (sections_of sections.now)) }
     ensures sound { IfOk result IsSound }
-    ensures fault { IfErr result (λ e. OnText e (IsLoop (circuit_spelled name header.now (maybe_texts given.now) (sections_of sections.now)))) }
+    ensures fault { IfErr result (λ e. OnText e
+        (IsLoop (circuit_spelled name header.now (maybe_texts given.now) (sections_of sections.now)))) }
 {
     let names = used(alloc, given, name)?;
     let joiner = joiner(alloc, &names)?;
@@ -105,7 +106,8 @@ pub fn circuit_of(
     requires variables { counted.now.variables ≡ variables_of (sections_in counted.now.body.items) }
     requires sorted { defined_in counted.now.body.items ≡ variables_of (sections_in counted.now.body.items) }
     requires said { IsSaid header.now (sections_in counted.now.body.items) (maybe_texts given.now) }
-    ensures circuit { IfOk result (λ c. c ≡ circuit_spelled limits.now.name header.now (maybe_texts given.now) (sections_in counted.now.body.items)) }
+    ensures circuit { IfOk result (λ c. c
+        ≡ circuit_spelled limits.now.name header.now (maybe_texts given.now) (sections_in counted.now.body.items)) }
     ensures sound { IfOk result IsSound }
     ensures whole { OnOk result (fault_said limits.now.signals counted.now.body.items
         (circuit_spelled limits.now.name header.now (maybe_texts given.now) (sections_in counted.now.body.items)) ≡ None) }

@@ -19,7 +19,8 @@ pub fn one_answer()
 
 /// The names of a text's circuit keep the limit on names, where it leaves room for the names that are made.
 pub fn short_names()
-    ensures { (limits : Limits) (text : List ℕ) (c : Plain) → longest_made_name ≤ limits.name → IsCircuitOf limits text c → HasNamesWithin limits.name c }
+    ensures { (limits : Limits) (text : List ℕ) (c : Plain) → longest_made_name ≤ limits.name → IsCircuitOf limits text c
+        → HasNamesWithin limits.name c }
 {}
 
 /// The outputs of a text's circuit are its output literals at every step of every input sequence.

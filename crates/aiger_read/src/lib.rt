@@ -22,8 +22,6 @@ mod sections;
 mod seen;
 mod statement;
 mod symbols;
-#[cfg(test)]
-mod tests;
 mod variables;
 
 use blif_read::Limits;

@@ -72,8 +72,10 @@ fn push_ands(
     gates: &mut Vec<GatePart>,
 ) -> Result<(), NoMemory>
     requires { length variables.now ≤ 900000 }
-    ensures names { OnOk result (part_names gates.new.items ≡ part_names gates.old.items ++ map (λ a. made_name joiner.now 97 (variable_of a.literal)) ands.now) }
-    ensures drives { OnOk result (part_drives gates.new.items ≡ part_drives gates.old.items ++ map (λ a. gate_of variables.now (a.left ∷ a.right ∷ [])) ands.now) }
+    ensures names { OnOk result (part_names gates.new.items ≡ part_names gates.old.items
+        ++ map (λ a. made_name joiner.now 97 (variable_of a.literal)) ands.now) }
+    ensures drives { OnOk result (part_drives gates.new.items ≡ part_drives gates.old.items
+        ++ map (λ a. gate_of variables.now (a.left ∷ a.right ∷ [])) ands.now) }
 {
     for and in ands {
         let name = made_name(alloc, b'a', joiner, (and.literal / 2) as usize)?;
@@ -92,7 +94,8 @@ fn push_made(
 ) -> Result<(), NoMemory>
     requires { length variables.now ≤ 900000 }
     ensures names { OnOk result (part_names gates.new.items ≡ part_names gates.old.items ++ made_names joiner.now 0 latches.now) }
-    ensures drives { OnOk result (part_drives gates.new.items ≡ part_drives gates.old.items ++ map (λ next. gate_of variables.now (next ∷ [])) (made_nexts latches.now)) }
+    ensures drives { OnOk result (part_drives gates.new.items ≡ part_drives gates.old.items
+        ++ map (λ next. gate_of variables.now (next ∷ [])) (made_nexts latches.now)) }
 {
     for (place, latch) in latches.iter().enumerate() {
         if is_made(latch.next) {
@@ -114,8 +117,10 @@ fn push_outputs(
 ) -> Result<(), NoMemory>
     requires variables { length variables.now ≤ 900000 }
     requires named { length names.now ≡ length outputs.now }
-    ensures names { OnOk result (part_names gates.new.items ≡ part_names gates.old.items ++ naming.names_from joiner.now 111 0 (maybe_texts names.now)) }
-    ensures drives { OnOk result (part_drives gates.new.items ≡ part_drives gates.old.items ++ map (λ literal. gate_of variables.now (literal ∷ [])) outputs.now) }
+    ensures names { OnOk result (part_names gates.new.items ≡ part_names gates.old.items
+        ++ naming.names_from joiner.now 111 0 (maybe_texts names.now)) }
+    ensures drives { OnOk result (part_drives gates.new.items ≡ part_drives gates.old.items
+        ++ map (λ literal. gate_of variables.now (literal ∷ [])) outputs.now) }
 {
     for (place, literal) in outputs.iter().enumerate() {
         let name = name_or_made(alloc, names[place], b'o', joiner, place)?;
@@ -147,7 +152,8 @@ fn gates_of(
 ) -> Result<Vec<GatePart>, NoMemory>
     requires variables { length variables.now ≤ 900000 }
     requires named { length names.now ≡ length sections.now.outputs.items }
-    ensures names { IfOk result (λ gates. part_names gates.items ≡ map (λ a. made_name joiner.now 97 (variable_of a.literal)) sections.now.ands.items
+    ensures names { IfOk result (λ gates. part_names gates.items
+        ≡ map (λ a. made_name joiner.now 97 (variable_of a.literal)) sections.now.ands.items
         ++ made_names joiner.now 0 sections.now.latches.items ++ naming.names_from joiner.now 111 0 (maybe_texts names.now)) }
     ensures drives { IfOk result (λ gates. part_drives gates.items ≡ gate_drives variables.now (sections_of sections.now)) }
 {
@@ -205,7 +211,8 @@ pub fn parts_of(
     requires latches { length sections.now.latches.items ≡ header.now.latches }
     requires outputs { length sections.now.outputs.items ≡ header.now.outputs }
     requires inputs { length sections.now.inputs.items ≡ header.now.inputs }
-    ensures { IfOk result (λ parts. circuit_of parts ≡ circuit_with header.now joiner.now (maybe_texts names.now) (sections_of sections.now)) }
+    ensures { IfOk result (λ parts. circuit_of parts
+        ≡ circuit_with header.now joiner.now (maybe_texts names.now) (sections_of sections.now)) }
 {
     let outputs_at = header.inputs as usize;
     let latches_at = outputs_at + header.outputs as usize;

@@ -98,7 +98,8 @@ pub fn content_of<'a>(alloc: Global, lines: &[&'a [u8]]) -> Result<Content<'a>, 
     ensures header { IfOk result (λ c. c.header ≡ header_of (texts lines.now)) }
     ensures body { IfOk result (λ c. c.counted.body.items ≡ body_of (texts lines.now)) }
     ensures variables { IfOk result (λ c. c.counted.variables ≡ defined_in (body_of (texts lines.now))) }
-    ensures names { IfOk result (λ c. maybe_texts c.names.items ≡ names_given (header_of (texts lines.now)) (symbol_lines (header_of (texts lines.now)) (texts lines.now))) }
+    ensures names { IfOk result (λ c. maybe_texts c.names.items
+        ≡ names_given (header_of (texts lines.now)) (symbol_lines (header_of (texts lines.now)) (texts lines.now))) }
     ensures fault { IfErr result (λ e. OnText e (IsFirstFault (texts lines.now))) }
 {
     let header = header_on(alloc, first_line(lines))?;

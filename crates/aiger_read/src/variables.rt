@@ -37,7 +37,8 @@ impl Variables {
     /// Puts a variable last, and answers whether it is new. A variable that is there already stays where it is.
     pub fn insert(&mut self, variable: u32) -> Result<bool, NoMemory>
         ensures added { IfOk result (λ added. added ≡ not (list_any (λ v. variable == v) self.old)) }
-        ensures variables { OnOk result (self.new ≡ (if list_any (λ v. variable == v) self.old then self.old else self.old ++ variable ∷ [])) }
+        ensures variables { OnOk result (self.new ≡
+            (if list_any (λ v. variable == v) self.old then self.old else self.old ++ variable ∷ [])) }
     {
         Ok(self.set.insert(variable)?)
     }

@@ -29,7 +29,8 @@ abbrev pub nth_line : List Line → ℕ → Line
 nth_line lines i = slice_index_or lines i (record { number = 0; words = [] })
 
 -- A line was ended: it is the last line now where it is kept, it has no fault then, and nothing else changed.
-pub record EndsLine (name : ℕ) (bindings : Bool) (number start : ℕ) (before : List (List ℕ)) (old : List Span) (after : List (List ℕ)) (new : List Span) : Type 0 where
+pub record EndsLine (name : ℕ) (bindings : Bool) (number start : ℕ) (before : List (List ℕ)) (old : List Span)
+    (after : List (List ℕ)) (new : List Span) : Type 0 where
   pub lines : lines_at after new ≡ lines_at before old ++ kept (record { number = number; words = drop start before } ∷ [])
   pub lawful : faults_of name bindings (kept (record { number = number; words = drop start before } ∷ [])) ≡ []
   pub within : AllByRecursion (IsWithin (length after)) new
@@ -37,5 +38,6 @@ pub record EndsLine (name : ℕ) (bindings : Bool) (number start : ℕ) (before 
 
 -- The fault is that of a line with this number and these words, which is kept.
 abbrev pub RefusesLine : ℕ → Bool → ℕ → List (List ℕ) → LexFault → Type 0
-RefusesLine name bindings number words (Text line kind) = faults_of name bindings (kept (record { number = number; words = words } ∷ [])) ≡ Text line kind ∷ []
+RefusesLine name bindings number words (Text line kind) =
+    faults_of name bindings (kept (record { number = number; words = words } ∷ [])) ≡ Text line kind ∷ []
 RefusesLine name bindings number words NoMemory = Unit {0}

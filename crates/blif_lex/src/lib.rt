@@ -9,5 +9,6 @@ mod fault;
 mod lines;
 mod rules;
 
+pub use cuts::cut_at;
 pub use fault::{LexFault, LexKind};
 pub use lines::Lines;

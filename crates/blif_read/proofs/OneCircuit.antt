@@ -9,18 +9,21 @@ use Rattle.tm_circuit.specs.Plain as plain
 use Rattle.tm_circuit.specs.Chain.{HasCircle}
 use Rattle.blif_lex.specs.Words.{Line, words_of}
 use Rattle.blif_lex.specs.declared.fault.LexFault.{LexFault}
-use Rattle.blif_read.specs.declared.Limits.{Limits}
-use Rattle.blif_read.specs.declared.fault.BlifFault.{BlifFault}
-use Rattle.blif_read.specs.declared.fault.BlifFault.TheVariants.{Text, NoMemory}
-use Rattle.blif_read.specs.Unit as told
-use Rattle.blif_read.specs.Unit.{Told, Telling, Model, AreDistinct, over, drivers_told, outputs_told}
-use Rattle.blif_read.specs.Circuit.{Reading, Faulty, reading, latches_read, gates_read, readings_of, inputs_of, names_of, fault_in_names, IsSpelled, IsCircuitOfModel, IsFaultOfModel, HasLoop}
-use Rattle.blif_read.specs.Circuit as by_name
-use Rattle.blif_read.specs.Statement.{fault_of_lines}
-use Rattle.blif_read.specs.Text.{model_in, IsCircuitOf, IsCircuitOfLines, IsFaultOf, IsFaultOfLines, IsLexed, OnText}
-use Rattle.blif_read.proofs.RowLemmas.{and_left, and_right}
-use Rattle.blif_read.proofs.OrderlyLemmas.{driven_once, or_right_false, all_both}
-use Rattle.blif_read.proofs.SignalNames.{names_distinct}
+use Rattle.blif_unit.specs.declared.limits.Limits.{Limits}
+use Rattle.blif_unit.specs.declared.fault.BlifFault.{BlifFault}
+use Rattle.blif_unit.specs.declared.fault.BlifFault.TheVariants.{Text, NoMemory}
+use Rattle.blif_unit.specs.Unit as told
+use Rattle.blif_unit.specs.Unit.{Told, Telling, Model, AreDistinct, over, drivers_told, outputs_told}
+use Rattle.blif_unit.specs.Fault.{Faulty}
+use Rattle.blif_circuit.specs.Circuit.{Reading, reading, latches_read, gates_read, readings_of, inputs_of, names_of, fault_in_names, IsSpelled, IsCircuitOfModel, IsFaultOfModel, HasLoop}
+use Rattle.blif_circuit.specs.Circuit as by_name
+use Rattle.blif_models.specs.Statement.{fault_of_lines}
+use Rattle.blif_models.specs.Lines.{model_in}
+use Rattle.blif_read.specs.Text.{IsCircuitOf, IsCircuitOfLines, IsFaultOf, IsFaultOfLines}
+use Rattle.blif_unit.specs.Fault.{IsLexed, OnText}
+use Rattle.blif_models.proofs.RowLemmas.{and_left, and_right}
+use Rattle.blif_models.proofs.OrderlyLemmas.{driven_once, or_right_false, all_both}
+use Rattle.blif_circuit.proofs.SignalNames.{names_distinct}
 
 -- ---- a name stands at one place
 
@@ -114,7 +117,7 @@ known_latches (t ∷ body) = all_both IsKnown (latches_read t.what) (flat_map (�
     by_told (told.outputs names) = tt
     by_told (told.clock names) = tt
     by_told (told.gate pins name cover) = tt
-    by_told told.place = tt
+    by_told (told.place placed bindings) = tt
 
 known_gates : (body : List Telling) → AllByRecursion IsKnown (flat_map (λ t. gates_read t.what) body)
 known_gates [] = tt
@@ -126,7 +129,7 @@ known_gates (t ∷ body) = all_both IsKnown (gates_read t.what) (flat_map (λ t.
     by_told (told.outputs names) = tt
     by_told (told.clock names) = tt
     by_told (told.latch next name init control) = tt
-    by_told told.place = tt
+    by_told (told.place placed bindings) = tt
 
 pub known_all : (body : List Telling) → AllByRecursion IsKnown (readings_of body)
 known_all body =
@@ -162,7 +165,7 @@ one_circuit m c d once sc sd =
 
 -- ---- a fault leaves no circuit
 
-model_excluded : (limit : ℕ) (m : Model) (f : Faulty) (c : Plain) → AreDistinct (over drivers_told m.body) → IsFaultOfModel limit m f → IsCircuitOfModel limit m c → ⊥
+pub model_excluded : (limit : ℕ) (m : Model) (f : Faulty) (c : Plain) → AreDistinct (over drivers_told m.body) → IsFaultOfModel limit m f → IsCircuitOfModel limit m c → ⊥
 model_excluded limit m f c once h ic =
     let loop : HasLoop m f = rw ic.lawful at h in
     let same : loop.1.0 ≡ c = one_circuit m loop.1.0 c once loop.1.1 ic.spelled in

@@ -1,5 +1,5 @@
 -- The names of the circuit of a text are words of the text, so they keep its limit on names.
-use Rattle.std.proofs.Common.{◌≡◌, ℕ, ◌≤◌, false, List, [], ◌∷◌, ◌++◌, Option, None, Some, length, All, refl, sym, subst}
+use Rattle.std.proofs.Common.{◌≡◌, ℕ, ◌≤◌, false, List, [], ◌∷◌, ◌++◌, Option, None, Some, length, refl, sym, subst}
 use Rattle.std.specs.Prelude.{Result, Ok, Err, IsOkAnd, option_map, position, slice_get, bytes_eq}
 use Rattle.std.specs.List.{AllByRecursion, list_any}
 use Rattle.std.proofs.lemmas.List.Elements.{All-from_recursion, recursion_from_All}
@@ -8,13 +8,14 @@ use Rattle.tm_circuit.specs.Sound as sound
 use Rattle.blif_lex.specs.Words.{Line, IsLawful, words_of}
 use Rattle.blif_lex.specs.declared.fault.LexFault.{LexFault}
 use Rattle.blif_lex.proofs.Lawful.{lawful_lines}
-use Rattle.blif_read.specs.declared.Limits.{Limits}
-use Rattle.blif_read.specs.Unit.{Telling, over, drivers_told, inputs_told, clocks_told}
-use Rattle.blif_read.specs.Circuit.{clock_in, declared_told, edges_of}
-use Rattle.blif_read.specs.Text.{IsCircuitOf, IsCircuitOfLines, HasNamesWithin, model_in}
-use Rattle.blif_read.proofs.OrderlyLemmas.{AreWords, drivers_kept, clocks_kept}
-use Rattle.blif_read.proofs.SignalLaid.{names_lawful, first_of}
-use Rattle.blif_read.proofs.SignalUses.{all-both}
+use Rattle.blif_unit.specs.declared.limits.Limits.{Limits}
+use Rattle.blif_unit.specs.Unit.{Telling, over, inputs_told, clocks_told}
+use Rattle.blif_circuit.specs.Circuit.{clock_in, declared_told, edges_of}
+use Rattle.blif_read.specs.Text.{IsCircuitOf, IsCircuitOfLines, HasNamesWithin}
+use Rattle.blif_models.specs.Lines.{model_in}
+use Rattle.blif_models.proofs.OrderlyLemmas.{AreWords, drivers_kept, clocks_kept}
+use Rattle.blif_circuit.proofs.SignalLaid.{names_lawful, first_of}
+use Rattle.blif_circuit.proofs.SignalUses.{all-both}
 
 clock_kept : (P : List ℕ → Type 0) (body : List Telling) → AllByRecursion P (over clocks_told body) → AllByRecursion P (sound.clock_name (clock_in body))
 clock_kept P body all = by_name (slice_get (over clocks_told body) 0) refl

@@ -11,19 +11,22 @@ use Rattle.blif_lex.specs.Words.{Line, words_of, lines_of, faults_of, fault_in, 
 use Rattle.blif_lex.specs.declared.fault.LexKind.{LexKind}
 use Rattle.blif_lex.specs.declared.fault.LexFault.{LexFault}
 use Rattle.blif_lex.specs.declared.fault.LexFault.TheVariants as lex
-use Rattle.blif_read.specs.declared.Limits.{Limits}
-use Rattle.blif_read.specs.declared.fault.BlifKind.TheVariants.{Loop}
-use Rattle.blif_read.specs.Unit as told
-use Rattle.blif_read.specs.Unit.{Told, Telling, Model, over, uses_told, outputs_told}
-use Rattle.blif_read.specs.Circuit as by_name
-use Rattle.blif_read.specs.Circuit.{Reading, Faulty, reading, latches_read, gates_read, readings_of, inputs_of, names_of, clock_in, fault_in_names, IsSpelled, IsCircuitOfModel, IsFaultOfModel, HasLoop}
-use Rattle.blif_read.specs.Statement.{fault_of_lines}
-use Rattle.blif_read.specs.Text.{model_in, kind_of, IsCircuitOf, IsCircuitOfLines, IsFaultOf, IsFaultOfLines, IsLexed}
-use Rattle.blif_read.proofs.RowLemmas.{and_left, and_right}
-use Rattle.blif_read.proofs.OrderlyLemmas.{driven_once}
+use Rattle.blif_unit.specs.declared.limits.Limits.{Limits}
+use Rattle.blif_unit.specs.declared.fault.BlifKind.TheVariants.{Loop}
+use Rattle.blif_unit.specs.Unit as told
+use Rattle.blif_unit.specs.Unit.{Told, Telling, Model, over, uses_told, outputs_told}
+use Rattle.blif_circuit.specs.Circuit as by_name
+use Rattle.blif_unit.specs.Fault.{Faulty}
+use Rattle.blif_circuit.specs.Circuit.{Reading, reading, latches_read, gates_read, readings_of, inputs_of, names_of, clock_in, fault_in_names, IsSpelled, IsCircuitOfModel, IsFaultOfModel, HasLoop}
+use Rattle.blif_models.specs.Statement.{fault_of_lines}
+use Rattle.blif_models.specs.Lines.{model_in}
+use Rattle.blif_unit.specs.Fault.{kind_of, IsLexed}
+use Rattle.blif_read.specs.Text.{IsCircuitOf, IsCircuitOfLines, IsFaultOf, IsFaultOfLines}
+use Rattle.blif_models.proofs.RowLemmas.{and_left, and_right}
+use Rattle.blif_models.proofs.OrderlyLemmas.{driven_once}
 use Rattle.blif_read.proofs.OneCircuit.{one_circuit}
-use Rattle.blif_read.proofs.CircleDecided.{circle_decided}
-use Rattle.blif_read.proofs.SignalFaults.{faultless, uses_known, outputs_known}
+use Rattle.blif_circuit.proofs.CircleDecided.{circle_decided}
+use Rattle.blif_circuit.proofs.SignalFaults.{faultless, uses_known, outputs_known}
 
 -- the number of the signal with a name
 abbrev number_of : List (List ℕ) → List ℕ → ℕ
@@ -71,7 +74,7 @@ latch_spelled names (told.inputs ns) h = refl
 latch_spelled names (told.outputs ns) h = refl
 latch_spelled names (told.clock ns) h = refl
 latch_spelled names (told.gate pins name cover) h = refl
-latch_spelled names told.place h = refl
+latch_spelled names (told.place placed bindings) h = refl
 
 gate_spelled : (names : List (List ℕ)) (w : Told) → list_all (is_signal names) (uses_told w) ≡ true → map (reading names) (gate_drives names w) ≡ gates_read w
 gate_spelled names (told.gate pins name cover) h = rw (all_found names pins h) refl
@@ -79,7 +82,7 @@ gate_spelled names (told.inputs ns) h = refl
 gate_spelled names (told.outputs ns) h = refl
 gate_spelled names (told.clock ns) h = refl
 gate_spelled names (told.latch next name init control) h = refl
-gate_spelled names told.place h = refl
+gate_spelled names (told.place placed bindings) h = refl
 
 all_spelled : (names : List (List ℕ)) (drives : Told → List Drive) (reads : Told → List Reading)
     → ((w : Told) → list_all (is_signal names) (uses_told w) ≡ true → map (reading names) (drives w) ≡ reads w)
@@ -129,7 +132,7 @@ some_circuit limit m h =
 
 -- ---- a circuit or a fault
 
-model_decided : (limit : ℕ) (m : Model) → ((c : Plain) × IsCircuitOfModel limit m c) ⊎ ((f : Faulty) × IsFaultOfModel limit m f)
+pub model_decided : (limit : ℕ) (m : Model) → ((c : Plain) × IsCircuitOfModel limit m c) ⊎ ((f : Faulty) × IsFaultOfModel limit m f)
 model_decided limit m = by_names (fault_in_names limit m.body) refl
   where
     by_circle : (c : Plain) → IsSpelled m c → fault_in_names limit m.body ≡ None → HasCircle c.drives ⊎ ¬ HasCircle c.drives
@@ -159,14 +162,14 @@ text_decided limits (Err (lex.Text line kind)) named = inr ((line, kind_of kind)
 text_decided limits (Err lex.NoMemory) named = absurd (named lex.NoMemory refl refl)
 
 -- the words of a text are never want of memory
-fault_is_text : (name : ℕ) (lines : List Line) (e : LexFault) (rest : List LexFault) → faults_of name false lines ≡ e ∷ rest → e ≢ lex.NoMemory
-fault_is_text name [] e rest h = cc
-fault_is_text name (l ∷ lines) e rest h = by_fault (fault_in name false l.words) refl (fault_is_text name lines e rest)
+fault_is_text : (name : ℕ) (bindings : Bool) (lines : List Line) (e : LexFault) (rest : List LexFault) → faults_of name bindings lines ≡ e ∷ rest → e ≢ lex.NoMemory
+fault_is_text name bindings [] e rest h = cc
+fault_is_text name bindings (l ∷ lines) e rest h = by_fault (fault_in name bindings l.words) refl (fault_is_text name bindings lines e rest)
   where
-    by_fault : (o : Option LexKind) → fault_in name false l.words ≡ o → (faults_of name false lines ≡ e ∷ rest → e ≢ lex.NoMemory) → e ≢ lex.NoMemory
-    by_fault None is more = let later : faults_of name false lines ≡ e ∷ rest = rw is at h in more later
+    by_fault : (o : Option LexKind) → fault_in name bindings l.words ≡ o → (faults_of name bindings lines ≡ e ∷ rest → e ≢ lex.NoMemory) → e ≢ lex.NoMemory
+    by_fault None is more = let later : faults_of name bindings lines ≡ e ∷ rest = rw is at h in more later
     by_fault (Some kind) is more = λ none.
-        let first : lex.Text l.number kind ∷ faults_of name false lines ≡ e ∷ rest = rw is at h in
+        let first : lex.Text l.number kind ∷ faults_of name bindings lines ≡ e ∷ rest = rw is at h in
         let same : lex.Text l.number kind ≡ e = cc in
         let no : lex.Text l.number kind ≡ lex.NoMemory = same ∙ none in cc
 
@@ -175,13 +178,14 @@ unless_text : (fs : List LexFault) (lines : List Line) → ((e : LexFault) (rest
 unless_text [] lines each e h = cc
 unless_text (f ∷ fs) lines each e h = let same : f ≡ e = cc in each e fs (ap (λ x. x ∷ fs) same)
 
-words_named : (name : ℕ) (text : List ℕ) (e : LexFault) → words_of name false text ≡ Err e → e ≢ lex.NoMemory
+pub words_named : (name : ℕ) (bindings : Bool) (text : List ℕ) (e : LexFault) → words_of name bindings text ≡ Err e → e ≢ lex.NoMemory
 unfolding words_of
-words_named name text e h = unless_text (faults_of name false (lines_of text)) (lines_of text) (fault_is_text name (lines_of text)) e h
+words_named name bindings text e h =
+    unless_text (faults_of name bindings (lines_of text)) (lines_of text) (fault_is_text name bindings (lines_of text)) e h
 
 -- A text has a circuit or a first fault.
 pub decided : (limits : Limits) (text : List ℕ) → ((c : Plain) × IsCircuitOf limits text c) ⊎ ((f : Faulty) × IsFaultOf limits text f)
-decided limits text = text_decided limits (words_of limits.name false text) (words_named limits.name text)
+decided limits text = text_decided limits (words_of limits.name false text) (words_named limits.name false text)
 
 -- ---- one circuit, one fault
 
@@ -197,7 +201,7 @@ text_circuit limits (Err e) c d ic id = absurd ic
 pub same_circuit : (limits : Limits) (text : List ℕ) (c d : Plain) → IsCircuitOf limits text c → IsCircuitOf limits text d → c ≡ d
 same_circuit limits text c d ic id = text_circuit limits (words_of limits.name false text) c d ic id
 
-option_fault : (o : Option Faulty) (P : Faulty → Type 0) (f g : Faulty) → (P f → P g → f ≡ g)
+pub option_fault : (o : Option Faulty) (P : Faulty → Type 0) (f g : Faulty) → (P f → P g → f ≡ g)
     → MatchOption o (P f) (λ first. f ≡ first) → MatchOption o (P g) (λ first. g ≡ first) → f ≡ g
 option_fault None P f g both p q = both p q
 option_fault (Some first) P f g both p q = p ∙ sym q
@@ -207,7 +211,7 @@ lines_fault limits lines f g =
     option_fault (fault_of_lines lines) (IsFaultOfModel limits.signals (model_in lines)) f g
     (option_fault (fault_in_names limits.signals (model_in lines).body) (HasLoop (model_in lines)) f g (λ p q. p.0 ∙ sym q.0))
 
-lexed_fault : (e : LexFault) (f g : Faulty) → IsLexed e f → IsLexed e g → f ≡ g
+pub lexed_fault : (e : LexFault) (f g : Faulty) → IsLexed e f → IsLexed e g → f ≡ g
 lexed_fault (lex.Text line kind) f g p q = p ∙ sym q
 lexed_fault lex.NoMemory f g p q = absurd p
 

@@ -1,7 +1,11 @@
-pub mod Keyword
-pub mod Statement
+pub use Rattle.blif_unit.specs.Fault
+pub use Rattle.blif_unit.specs.Fit
+pub use Rattle.blif_unit.specs.Unit
+pub use Rattle.blif_models.specs.Keyword
+pub use Rattle.blif_models.specs.Several
+pub use Rattle.blif_models.specs.Statement
+pub use Rattle.blif_circuit.specs.Circuit
+pub mod Limits
+pub mod Seen
 pub mod Text
-pub mod Unit
-pub mod Circuit
-pub mod Words
-pub mod Signals
+pub mod Whole

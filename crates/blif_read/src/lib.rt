@@ -7,38 +7,23 @@ ghost use Rattle.std.specs.Prelude.{◌^◌, ◌<◌, ◌≤◌, length, IfOk, I
 ghost use Rattle.tm_circuit.specs.Plain.{Plain};
 ghost use Rattle.blif_read.specs.Text.{IsCircuitOf, IsFaultOf, OnText};
 
-mod clock;
-mod fault;
-mod heads;
-mod keyword;
+pub mod fault;
+pub mod keyword;
 pub mod laws;
-mod names;
-mod order;
-mod parts;
-mod rows;
-mod signals;
-mod statements;
-mod unit;
-mod uses;
-mod words;
+pub mod unit;
+mod whole;
 
+use blif_circuit::circuit_of;
 use blif_lex::Lines;
+use blif_models::unit_of;
+pub use blif_models::units;
+pub use blif_unit::Limits;
 pub use fault::{BlifFault, BlifKind};
 pub use keyword::Keyword;
-use signals::circuit_of;
-use statements::unit_of;
 use std::alloc::Global;
 use tm_circuit::Circuit;
 pub use unit::{Binding, Control, Stated, Statement, Unit};
-
-/// What a text may have at most.
-#[derive(Clone, Copy, Debug, PartialEq, Eq)]
-pub struct Limits {
-    /// Signals of the circuit.
-    pub signals: u32,
-    /// Bytes of a name.
-    pub name: u32,
-}
+pub use whole::circuit;
 
 /// The limits on a text that is mapped.
 pub const SOURCE: Limits = Limits {

@@ -21,7 +21,7 @@ use Rattle.blif_read.specs.declared.keyword.Keyword.{Keyword}
 use Rattle.blif_read.specs.declared.keyword.Keyword.TheVariants.{Model, Inputs, Outputs, Names, Latch, End}
 use Rattle.blif_read.specs.declared.keyword.Keyword.TheVariants as keyword
 use Rattle.blif_read.specs.Keyword.{keyword_at, left_out}
-use Rattle.blif_read.specs.Unit.{Told, Telling}
+use Rattle.blif_read.specs.Unit.{Told}
 use Rattle.blif_read.specs.Unit as told
 use Rattle.blif_read.specs.Statement.{last_of, but_last, telling_in, told_in, is_on, places_of, place_of, cover_of, has_bad_count, has_bad_type, has_bad_init, has_unknown_init, control_in, init_of, edge_of}
 use Rattle.tm_circuit.specs.Same.{input_names}

@@ -20,10 +20,10 @@ use Rattle.blif_lex.specs.Words.{Line, words_of}
 use Rattle.blif_read.specs.declared.Limits.{Limits}
 use Rattle.blif_read.specs.declared.fault.BlifKind.{BlifKind}
 use Rattle.blif_read.specs.declared.fault.BlifKind.TheVariants.{Undriven, GatedClock, ClockAsData, TooManySignals}
-use Rattle.blif_read.specs.Unit.{Told, Telling, Model, inputs_told, outputs_told, latch_told, gate_told, drivers_told, uses_told, clocks_told, over}
+use Rattle.blif_read.specs.Unit.{Told, Telling, inputs_told, outputs_told, latch_told, gate_told, drivers_told, uses_told, clocks_told, over}
 use Rattle.blif_read.specs.Unit as told
 use Rattle.blif_read.specs.Statement.{Block, keyword_in, is_model, further, word_at, body_of, telling_in}
-use Rattle.blif_read.specs.Circuit.{clock_name, is_named, is_clock, declared_told, edges_of, clock_in, inputs_of, Reading, reading, latches_read, gates_read, readings_of, IsSpelled, Faulty, first_with, is_driven, made_told, fault_in_names, IsCircuitOfModel}
+use Rattle.blif_read.specs.Circuit.{clock_name, is_named, is_clock, declared_told, edges_of, clock_in, inputs_of, Reading, reading, latches_read, gates_read, readings_of, Faulty, first_with, least, lines_with, least_with, is_driven, made_told, fault_in_names, IsCircuitOfModel}
 use Rattle.blif_read.specs.Circuit as read
 use Rattle.blif_read.specs.Text.{model_in, IsCircuitOfLines, IsCircuitOf}
 use Rattle.blif_write.specs.Even.{IsEvenDrive}
@@ -306,6 +306,16 @@ none_with names test kind (t ∷ body) h =
     let here : list_any test (names t.what) ≡ false = any_none test (names t.what) parts.0 in
     rw here (none_with names test kind body parts.1)
 
+no_lines : (names : Told → List (List ℕ)) (test : List ℕ → Bool) (body : List Telling) → AllByRecursion (λ n. test n ≡ false) (flat_map (λ t. names t.what) body) → lines_with names test body ≡ []
+no_lines names test [] h = refl
+no_lines names test (t ∷ body) h =
+    let parts = all_parts (λ n. test n ≡ false) (names t.what) (flat_map (λ x. names x.what) body) h in
+    let here : list_any test (names t.what) ≡ false = any_none test (names t.what) parts.0 in
+    rw here (no_lines names test body parts.1)
+
+none_least : (names : Told → List (List ℕ)) (test : List ℕ → Bool) (kind : BlifKind) (body : List Telling) → AllByRecursion (λ n. test n ≡ false) (flat_map (λ t. names t.what) body) → least_with names test kind body ≡ None
+none_least names test kind body h = ap (λ lines. option_map {U = Faulty} (λ (line : ℕ). (line, kind)) (least lines)) (no_lines names test body h)
+
 any_at : (names : List (List ℕ)) (s : ℕ) → s < length names → list_any (λ m. bytes_eq (get_or names s []) m) names ≡ true
 any_at [] s h = absurd (omega arith)
 any_at (n ∷ names) zero h = let here : bytes_eq n n ≡ true = same_bytes n n refl in rw here refl
@@ -380,18 +390,18 @@ made_are_no_clock body c sound e =
 names_lawful : (body : List Telling) (c : Plain) → IsSound c → AllByRecursion (Fits c) (signals_of c) → Tells body c → fault_in_names 900000 body ≡ None
 names_lawful body c sound fits e =
     let uses : AllByRecursion (IsNameOf c) (flat_map (λ t. uses_told t.what) body) = subst (λ ns. AllByRecursion (IsNameOf c) ns) (sym (over_told uses_told body (told_by c) e)) (uses_are_names c sound fits) in
-    let first : first_with uses_told (λ n. not (is_driven body n || is_clock body n)) Undriven body ≡ None =
-    none_with uses_told (λ n. not (is_driven body n || is_clock body n)) Undriven body
+    let first : least_with uses_told (λ n. not (is_driven body n || is_clock body n)) Undriven body ≡ None =
+    none_least uses_told (λ n. not (is_driven body n || is_clock body n)) Undriven body
     (all_map (IsNameOf c) (λ n. not (is_driven body n || is_clock body n) ≡ false) (λ n is. ap (λ b. not (b || is_clock body n)) (name_is_driven body c sound e n is)) (flat_map (λ t. uses_told t.what) body) uses) in
     let second : first_with made_told (is_clock body) GatedClock body ≡ None =
     none_with made_told (λ n. is_clock body n) GatedClock body
     (subst (λ ns. AllByRecursion (λ n. is_clock body n ≡ false) ns) (sym (over_told made_told body (told_by c) e ∙ made_are c)) (made_are_no_clock body c sound e)) in
-    let third : first_with uses_told (is_clock body) ClockAsData body ≡ None =
-    none_with uses_told (λ n. is_clock body n) ClockAsData body
+    let third : least_with uses_told (is_clock body) ClockAsData body ≡ None =
+    none_least uses_told (λ n. is_clock body n) ClockAsData body
     (all_map (IsNameOf c) (λ n. is_clock body n ≡ false) (name_is_no_clock body c sound e) (flat_map (λ t. uses_told t.what) body) uses) in
     let size : length (read.names_of body) ≤ 900000 = omega (arith, ap length (read_names body c sound e), sound.named, sound.few) in
     let few : ltb 900000 (length (read.names_of body)) ≡ false = le-ltb 900000 (length (read.names_of body)) size in
-    four (first_with uses_told (λ n. not (is_driven body n || is_clock body n)) Undriven body) (first_with made_told (is_clock body) GatedClock body) (first_with uses_told (is_clock body) ClockAsData body) (ltb 900000 (length (read.names_of body))) first second third few
+    four (least_with uses_told (λ n. not (is_driven body n || is_clock body n)) Undriven body) (first_with made_told (is_clock body) GatedClock body) (least_with uses_told (is_clock body) ClockAsData body) (ltb 900000 (length (read.names_of body))) first second third few
   where
     four : (x y z : Option Faulty) (b : Bool) → x ≡ None → y ≡ None → z ≡ None → b ≡ false → option_or x (option_or y (option_or z (cond b (Some (0, TooManySignals)) None))) ≡ None
     four x y z b h1 h2 h3 h4 = rw (h1, h2, h3, h4) refl

@@ -1,5 +1,5 @@
 -- The statements that are written spell the circuit.
-use Rattle.std.proofs.Common.{◌≡◌, ◌≢◌, ℕ, zero, suc, ◌<◌, ◌≤◌, ◌++◌, List, [], ◌∷◌, Bool, true, false, not, cond, ltb, length, take, drop, Some, None, Option, refl, sym, ap, ◌∙◌, subst, arith, length-append}
+use Rattle.std.proofs.Common.{◌≡◌, ◌≢◌, ℕ, ◌<◌, ◌≤◌, ◌++◌, List, [], ◌∷◌, Bool, true, false, not, cond, ltb, length, take, drop, Some, None, Option, refl, sym, ap, ◌∙◌, subst, arith, length-append}
 use Rattle.std.specs.Prelude.{IfSome, is_some, bytes_eq, option_map, slice_get, filter, position}
 use Rattle.std.specs.List.{flat_map, list_any, prefix_len, position_or_len, AllByRecursion}
 use Rattle.std.specs.Option.{option_to_list}
@@ -14,7 +14,7 @@ use Rattle.tm_circuit.specs.declared.parts.Edge.{Edge}
 use Rattle.tm_circuit.specs.Plain.{Plain, Drive, input_count, latch_count}
 use Rattle.tm_circuit.specs.Plain as plain
 use Rattle.tm_circuit.specs.Sound.{IsSound, IsClockOf}
-use Rattle.blif_read.specs.Unit.{Told, Telling, Model, inputs_told, outputs_told, latch_told, gate_told, drivers_told, uses_told, clocks_told, control_told, over}
+use Rattle.blif_read.specs.Unit.{Told, inputs_told, outputs_told, latch_told, gate_told, drivers_told, clocks_told, control_told}
 use Rattle.blif_read.specs.Unit as told
 use Rattle.blif_read.specs.Circuit.{is_named, declared_told, made_told}
 use Rattle.blif_write.specs.Text.{signals_of, name_of, names_of, with_clock}

@@ -54,7 +54,8 @@ fn push_range(out: &mut Vec<u8>, circuit: &Circuit, start: u32, end: u32) -> Res
 /// Writes the names of the inputs, with the clock's name at its place where it has one.
 fn push_inputs(out: &mut Vec<u8>, circuit: &Circuit) -> Result<(), NoMemory>
     requires { IsSound circuit.now }
-    ensures { OnOk result (out.new.items ≡ out.old.items ++ flat_map further_word (with_clock circuit.now.clock (input_names circuit.now))) }
+    ensures { OnOk result (out.new.items ≡ out.old.items
+        ++ flat_map further_word (with_clock circuit.now.clock (input_names circuit.now))) }
 {
     let inputs = circuit.inputs();
     match circuit.clock() {
@@ -176,7 +177,8 @@ fn write_rows(out: &mut Vec<u8>, cover: &Cover) -> Result<(), NoMemory>
 fn write_latch(out: &mut Vec<u8>, circuit: &Circuit, signal: Signal) -> Result<(), NoMemory>
     requires sound { IsSound circuit.now }
     requires inside { signal < length circuit.now.drives }
-    ensures { OnOk result (out.new.items ≡ out.old.items ++ lines_text (latch_lines circuit.now (name_of circuit.now signal) (drive circuit.now signal))) }
+    ensures { OnOk result (out.new.items
+        ≡ out.old.items ++ lines_text (latch_lines circuit.now (name_of circuit.now signal) (drive circuit.now signal))) }
 {
     if let Driver::Latch { next, init } = circuit.driver(signal) {
         out.extend_from_slice(b".latch")?;
@@ -204,7 +206,8 @@ fn write_latches(out: &mut Vec<u8>, circuit: &Circuit, signals: u32) -> Result<(
 fn write_gate(out: &mut Vec<u8>, circuit: &Circuit, signal: Signal) -> Result<(), NoMemory>
     requires sound { IsSound circuit.now }
     requires inside { signal < length circuit.now.drives }
-    ensures written { OnOk result (out.new.items ≡ out.old.items ++ lines_text (gate_lines circuit.now (name_of circuit.now signal) (drive circuit.now signal))) }
+    ensures written { OnOk result (out.new.items
+        ≡ out.old.items ++ lines_text (gate_lines circuit.now (name_of circuit.now signal) (drive circuit.now signal))) }
     ensures even { OnOk result (IsEvenDrive (drive circuit.now signal)) }
 {
     if let Driver::Gate { pins, cover } = circuit.driver(signal) {

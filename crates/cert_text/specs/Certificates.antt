@@ -19,7 +19,12 @@ pub record Certificate : Type 0 where
 
 -- A certificate as plain numbers and lists, whatever room its lists have to spare.
 abbrev pub certificate_of : Cert → Certificate
-certificate_of cert = record { version = cert.version; period = cert.period; tables = tables_of cert.mapping; drops = map drop_of cert.drops.items }
+certificate_of cert = record {
+  version = cert.version;
+  period = cert.period;
+  tables = tables_of cert.mapping;
+  drops = map drop_of cert.drops.items;
+}
 
 -- ---- what can be spelled
 
@@ -85,7 +90,8 @@ drop_words d = codes "drop" ∷ decimal d.gate ∷ decimal d.lag ∷ decimal d.a
 -- The lines of a certificate, in order.
 abbrev pub certificate_words : Certificate → List (List (List ℕ))
 certificate_words c =
-    (counted (codes "turbomap") c.version ∷ counted (codes "period") c.period ∷ counted (codes "tables") (length c.tables) ∷ map table_words c.tables)
+    (counted (codes "turbomap") c.version ∷ counted (codes "period") c.period ∷ counted (codes "tables") (length c.tables)
+    ∷ map table_words c.tables)
     ++ (counted (codes "drops") (length c.drops) ∷ map drop_words c.drops)
     ++ (codes "end" ∷ []) ∷ []
 

@@ -47,7 +47,8 @@ has_words keyword words =
 unfoldable pub has_numbers : Keyword → List (List ℕ) → Bool
 has_numbers Period words = is_number most_number (word_at words 1)
 has_numbers Tables words = is_number most_number (word_at words 1)
-has_numbers Table words = is_number most_number (word_at words 1) && is_number most_steps (word_at words 2) && list_all is_leaf (drop 3 words)
+has_numbers Table words =
+    is_number most_number (word_at words 1) && is_number most_steps (word_at words 2) && list_all is_leaf (drop 3 words)
 has_numbers Drops words = is_number most_drops (word_at words 1)
 has_numbers Drop words =
     is_number most_number (word_at words 1) && is_number most_steps (word_at words 2) && is_number most_number (word_at words 3)

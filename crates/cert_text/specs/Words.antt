@@ -63,7 +63,12 @@ abbrev pub table_on : List ℕ → Table
 table_on line = table_in (words_in line)
 
 abbrev pub drop_in : List (List ℕ) → Drop
-drop_in words = record { gate = number_in (word_at words 1); lag = number_in (word_at words 2); arrival = number_in (word_at words 3); walks = map walk_in (drop 4 words) }
+drop_in words = record {
+  gate = number_in (word_at words 1);
+  lag = number_in (word_at words 2);
+  arrival = number_in (word_at words 3);
+  walks = map walk_in (drop 4 words);
+}
 
 abbrev pub drop_on : List ℕ → Drop
 drop_on line = drop_in (words_in line)

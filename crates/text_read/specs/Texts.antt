@@ -1,16 +1,17 @@
 -- The circuit and the first fault of a text that is given as input. One that begins with the bytes `aag ` is ASCII AIGER, any
--- other is BLIF.
-use Rattle.std.specs.Prelude.{ℕ, Bool, if◌then◌else◌, List, codes, nat_eq, MatchBool, IsTrue}
+-- other is BLIF, of one or several models.
+use Rattle.std.specs.Prelude.{ℕ, Bool, if◌then◌else◌, List, codes, nat_eq, MatchBool}
 use Rattle.std.specs.List.{starts_with}
 use Rattle.tm_circuit.specs.Plain.{Plain}
 use Rattle.blif_read.specs.declared.Limits.{Limits}
 use Rattle.blif_read.specs.declared.fault.BlifKind.{BlifKind}
 use Rattle.blif_read.specs.declared.fault.BlifKind.TheVariants as blif_kind
-use Rattle.blif_read.specs.Text as blif
+use Rattle.blif_hier.specs.Text as blif
+use Rattle.blif_hier.specs.Nested as nested
 use Rattle.aiger_read.specs.declared.fault.AigerKind.{AigerKind}
 use Rattle.aiger_read.specs.declared.fault.AigerKind.TheVariants as aiger_kind
 use Rattle.aiger_read.specs.Text as aiger
-use Rattle.aiger_read.specs.Trace.{MeansText}
+use Rattle.aiger_read.specs.Trace as bits
 use Rattle.text_read.specs.declared.fault.TextKind.{TextKind}
 use Rattle.text_read.specs.declared.fault.TextKind.TheVariants.{Blif, Aiger}
 use Rattle.text_read.specs.declared.fault.TextFault.{TextFault}
@@ -26,9 +27,10 @@ is_aiger text = starts_with nat_eq text (codes "aag ")
 abbrev pub IsCircuitOf : Limits → List ℕ → Plain → Type 0
 IsCircuitOf limits text c = MatchBool (is_aiger text) (aiger.IsCircuitOf limits text c) (blif.IsCircuitOf limits text c)
 
--- The circuit shows what the text means, where that is told without it: in AIGER, by the bits of the output literals.
-abbrev pub ShowsMeaning : List ℕ → Plain → Type 0
-ShowsMeaning text c = IsTrue (is_aiger text) → MeansText text c
+-- The circuit shows what the text means: in AIGER the bits of the output literals, in BLIF the bits of the top's outputs, as its
+-- models are nested.
+abbrev pub ShowsMeaning : Limits → List ℕ → Plain → Type 0
+ShowsMeaning limits text c = MatchBool (is_aiger text) (bits.MeansText text c) (nested.MeansText limits text c)
 
 -- ---- the first fault
 

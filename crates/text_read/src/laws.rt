@@ -14,7 +14,7 @@ pub fn one_answer()
     ensures not_both { (limits : Limits) (text : List ℕ) (c : Plain) (f : Faulty) → IsFaultOf limits text f → ¬ IsCircuitOf limits text c }
 {
     aiger_read::laws::one_answer();
-    blif_read::laws::one_answer();
+    blif_hier::laws::one_answer();
 }
 
 /// The names of a text's circuit keep the limit on names, where that leaves room for the names that are made for an AIGER text.
@@ -23,5 +23,5 @@ pub fn short_names()
         → HasNamesWithin limits.name c }
 {
     aiger_read::laws::short_names();
-    blif_read::laws::short_names();
+    blif_hier::laws::short_names();
 }

@@ -4,8 +4,9 @@ ghost use Rattle.std.specs.Prelude.{◌≡◌, ◌^◌, ◌<◌, ◌≤◌, leng
 ghost use Rattle.tm_circuit.specs.Plain.{Plain};
 ghost use Rattle.tm_circuit.specs.Sound.{IsSound};
 ghost use Rattle.aiger_read.specs.Text as aiger;
-ghost use Rattle.aiger_read.specs.Trace.{MeansText};
-ghost use Rattle.blif_read.specs.Text as blif;
+ghost use Rattle.aiger_read.specs.Trace as bits;
+ghost use Rattle.blif_hier.specs.Nested as nested;
+ghost use Rattle.blif_hier.specs.Text as blif;
 ghost use Rattle.text_read.specs.Texts.{is_aiger as begins_aiger, too_many as too_many_in, IsCircuitOf, ShowsMeaning, IsBlifFault, IsAigerFault, IsFaultOf, OnText};
 
 use crate::fault::{TextFault, TextKind};
@@ -39,7 +40,7 @@ pub fn read(alloc: Global, text: &[u8], limits: &Limits) -> Result<Circuit, Text
     requires name { limits.now.name ≤ 1023 }
     // What is answered is the circuit that the text has, and it shows what the text means.
     ensures circuit { IfOk result (λ c. IsCircuitOf limits.now text.now c) }
-    ensures meaning { IfOk result (λ c. ShowsMeaning text.now c) }
+    ensures meaning { IfOk result (λ c. ShowsMeaning limits.now text.now c) }
     ensures sound { IfOk result (λ c. IsSound c) }
     // The fault is the text's first, and then the text has no circuit.
     ensures fault { IfErr result (λ e. OnText e (IsFaultOf limits.now text.now)) }
@@ -58,7 +59,7 @@ fn read_aiger(alloc: Global, text: &[u8], limits: &Limits) -> Result<Circuit, Te
     requires signals { limits.now.signals ≤ 900000 }
     requires name { limits.now.name ≤ 1023 }
     ensures circuit { IfOk result (λ c. aiger.IsCircuitOf limits.now text.now c) }
-    ensures meaning { IfOk result (λ c. MeansText text.now c) }
+    ensures meaning { IfOk result (λ c. bits.MeansText text.now c) }
     ensures sound { IfOk result (λ c. IsSound c) }
     ensures fault { IfErr result (λ e. OnText e (IsAigerFault limits.now text.now)) }
     ensures none { IfErr result (λ e. OnText e (λ _. (c : Plain) → ¬ aiger.IsCircuitOf limits.now text.now c)) }
@@ -73,22 +74,19 @@ fn read_aiger(alloc: Global, text: &[u8], limits: &Limits) -> Result<Circuit, Te
     }
 }
 
-/// The circuit of a BLIF text.
+/// The circuit of a BLIF text, of one or several models.
 fn read_blif(alloc: Global, text: &[u8], limits: &Limits) -> Result<Circuit, TextFault>
     requires short { length text.now < 2 ^ 32 }
     requires signals { limits.now.signals ≤ 900000 }
     requires name { limits.now.name ≤ 1023 }
     ensures circuit { IfOk result (λ c. blif.IsCircuitOf limits.now text.now c) }
+    ensures meaning { IfOk result (λ c. nested.MeansText limits.now text.now c) }
     ensures sound { IfOk result (λ c. IsSound c) }
     ensures fault { IfErr result (λ e. OnText e (IsBlifFault limits.now text.now)) }
     ensures none { IfErr result (λ e. OnText e (λ _. (c : Plain) → ¬ blif.IsCircuitOf limits.now text.now c)) }
 {
-    match blif_read::read(alloc, text, limits) {
-        Ok(circuit) => {
-            // Each circuit in hand is known to be sound.
-            let _ = circuit.signals();
-            Ok(circuit)
-        }
+    match blif_hier::read(alloc, text, limits) {
+        Ok(circuit) => Ok(circuit),
         Err(BlifFault::Text { line, kind }) => Err(TextFault::Text {
             line,
             kind: TextKind::Blif(kind),

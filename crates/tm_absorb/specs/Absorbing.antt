@@ -25,7 +25,8 @@ IsNewSet k t u new = IsReplacement k u.leaves (root t) t.leaves new
 pub record IsAbsorbable (c : Plain) (k : ℕ) (tables : List Table) (t : Table) : Type 0 where
   pub table : Contains tables t
   pub inner : (s : ℕ) → Contains c.outputs s → ¬ IsSource c.drives s (Gate t.gate)
-  pub unlatched : (x : Node) → IsLeafIn tables x → IsTrue (is_latch (drive_in c.drives x.signal)) → ¬ IsSource c.drives x.signal (Gate t.gate)
+  pub unlatched : (x : Node) → IsLeafIn tables x → IsTrue (is_latch (drive_in c.drives x.signal))
+      → ¬ IsSource c.drives x.signal (Gate t.gate)
   pub at_lag : (x : Node) → IsLeafIn tables x → x.signal ≡ t.gate → x.advance ≡ t.lag
   pub fits : (u : Table) → Contains tables u → Reads u t → (new : List Node) × IsNewSet k t u new
 

@@ -50,7 +50,8 @@ pub record AddsReaders (old new : List (List ℕ)) : Type 0 where
 
 -- A gate is a reader of each gate that is the source of one of these leaves.
 abbrev pub IsReader : List Drive → ℕ → List Node → List (List ℕ) → Type 0
-IsReader drives g leaves readers = (h : ℕ) (x : Node) → Contains leaves x → IsSource drives x.signal (Gate h) → Contains (row_in readers h) g
+IsReader drives g leaves readers =
+    (h : ℕ) (x : Node) → Contains leaves x → IsSource drives x.signal (Gate h) → Contains (row_in readers h) g
 
 -- The gates that are the sources of some leaves.
 pub record HasSources (drives : List Drive) (leaves : List Node) (gates : List ℕ) : Type 0 where
@@ -106,7 +107,8 @@ abbrev pub HasRoomAt : ℕ → List (Option Lut) → Table → ℕ → Type 0
 HasRoomAt k slots t g = (u : Table) → slot_in slots g ≡ Some u → HasRoom k t u
 
 -- The table in a slot took another one in, and is queued; its gate is a reader of the sources of what it took in.
-pub record IsRenewedAt (drives : List Drive) (k : ℕ) (readers : List (List ℕ)) (queue : List ℕ) (t : Table) (g : ℕ) (old new : List (Option Lut)) : Type 0 where
+pub record IsRenewedAt (drives : List Drive) (k : ℕ) (readers : List (List ℕ)) (queue : List ℕ) (t : Table) (g : ℕ)
+    (old new : List (Option Lut)) : Type 0 where
   pub was : Table
   pub now : Table
   pub from : slot_in old g ≡ Some was

@@ -30,7 +30,8 @@ sample_circuit n = record {
   model = codes "sample";
   clock = None;
   names = map input_name (range_with_len 0 8) ++ map latch_name (range_with_len 0 (latches_of n)) ++ map gate_name (range_with_len 0 n);
-  drives = map (λ _. input) (range_with_len 0 8) ++ map (latch_drive n) (range_with_len 0 (latches_of n)) ++ map (gate_drive n) (range_with_len 0 n);
+  drives = map (λ _. input) (range_with_len 0 8) ++ map (latch_drive n) (range_with_len 0 (latches_of n))
+      ++ map (gate_drive n) (range_with_len 0 n);
   outputs = map (gate_signal n) (range_with_len (n - 8) 8);
 }
 

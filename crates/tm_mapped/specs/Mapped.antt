@@ -32,7 +32,8 @@ abbrev pub IsRegisterDrive : Plain → List Node → Drive → Node → Drive �
 IsRegisterDrive c nodes input x d = ⊥
 IsRegisterDrive c nodes (latch next init) x d = (j : ℕ) × StandsFor nodes j (node_at 0 next) × (d ≡ latch j init)
 IsRegisterDrive c nodes (gate pins cover) x d =
-    (j : ℕ) × ((init : Bool) × StandsFor nodes j (node_at (suc x.advance) x.signal) × IsFirstBit c x.signal x.advance init × (d ≡ latch j init))
+    (j : ℕ) × ((init : Bool) × StandsFor nodes j (node_at (suc x.advance) x.signal) × IsFirstBit c x.signal x.advance init
+    × (d ≡ latch j init))
 
 -- Which covers may stand for the words of a table with so many inputs.
 abbrev pub CoverRule : Type 1
@@ -68,7 +69,9 @@ node_name c x = node_name_at c x.signal x.advance
 
 -- A clock that drives no latch has no edge; it stays where it was declared or had a place.
 abbrev pub idle_clock : Clock → Option Clock
-idle_clock clock = if clock.declared || is_some clock.place then Some (record { name = clock.name; declared = true; place = clock.place; edge = None }) else None
+idle_clock clock =
+    if clock.declared || is_some clock.place
+    then Some (record { name = clock.name; declared = true; place = clock.place; edge = None }) else None
 
 abbrev pub idle_clock_of : Option Clock → Option Clock
 idle_clock_of None = None

@@ -22,7 +22,8 @@ IsBetter held offered taken =
 pub record OffersAll (old new : List Onward) (signals : List ℕ) (step : Onward) : Type 0 where
   pub sized : length new ≡ length old
   pub each : (s : ℕ) → s < length old
-      → (Contains signals s × IsBetter (onward_at old s) step (onward_at new s)) ⊎ (¬ Contains signals s × (onward_at new s ≡ onward_at old s))
+      → (Contains signals s × IsBetter (onward_at old s) step (onward_at new s))
+      ⊎ (¬ Contains signals s × (onward_at new s ≡ onward_at old s))
 
 -- A way on behind a signal, among some of the gates that read it: one gate more than behind the reader that has most
 -- behind it, next to the least such reader; no gates where there is no reader.

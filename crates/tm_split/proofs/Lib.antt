@@ -12,3 +12,4 @@ pub mod Ranks
 pub mod Tracing
 pub mod Alike
 pub mod Soundness
+pub mod Narrow

@@ -10,7 +10,7 @@ ghost use Rattle.tm_parts.specs.Fits.{FitsMapping};
 ghost use Rattle.tm_split.specs.Limits.{most_subject_signals, longest_name_to_split};
 ghost use Rattle.tm_split.specs.Subject.{subject_of};
 
-use crate::count::{is_few, numbers};
+use crate::count::{MOST_SUBJECT_SIGNALS, is_few, numbers};
 use crate::gates::Plan;
 use crate::parts::split_parts;
 use std::alloc::Global;
@@ -75,4 +75,25 @@ pub fn subject(alloc: Global, circuit: &Circuit, k: u8) -> Result<Circuit, Split
             _ => unreachable!(),
         },
     }
+}
+
+/// The subject circuit of a circuit that is handed over: where no gate has more than `k` pins it is that circuit, and nothing is copied.
+pub fn into_subject(alloc: Global, circuit: Circuit, k: u8) -> Result<Circuit, SplitFault>
+    requires least { 2 ≤ k }
+    requires most { k ≤ MOST_K }
+    requires names { HasNamesWithin longest_name_to_split circuit }
+    ensures subject { IfOk result (λ subject. subject ≡ subject_of k circuit) }
+    ensures same { IfOk result (λ subject. IsSame circuit subject) }
+    ensures narrow { IfOk result (λ subject. widest subject.drives ≤ k) }
+    ensures few { IfOk result (λ subject. length subject.drives ≤ most_subject_signals) }
+    ensures names { IfOk result (λ subject. HasNamesWithin longest_name_to_map subject) }
+    ensures sound { IfOk result IsSound }
+    ensures fits { IfOk result FitsMapping }
+    ensures too_many { (result ≡ Err SplitFault.TooManySignals) ↔ (most_subject_signals < length (subject_of k circuit).drives) }
+{
+    laws::equivalence();
+    if circuit.widest() <= u32::from(k) && u64::from(circuit.signals()) <= MOST_SUBJECT_SIGNALS {
+        return Ok(circuit);
+    }
+    subject(alloc, &circuit, k)
 }

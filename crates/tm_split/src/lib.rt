@@ -12,5 +12,5 @@ mod parts;
 mod piece;
 mod pieces;
 
-pub use circuit::{SplitFault, subject};
+pub use circuit::{SplitFault, into_subject, subject};
 pub use count::MOST_SUBJECT_SIGNALS;

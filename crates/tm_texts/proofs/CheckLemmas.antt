@@ -40,6 +40,7 @@ accepted_texts k d source mapped cert subject claimed certificate drops split of
   accepted = subst (λ (c : Plain). IsAccepted c claimed certificate k d) split.spelled accepted;
   period_is = refl;
   drops_are = drops_are;
+  meaning = split.meaning;
   source_sound = split.source_sound;
   mapped_sound = sound;
   same = sound_same_through split.source subject claimed split.sound split.same best.same;

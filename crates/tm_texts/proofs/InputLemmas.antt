@@ -2,9 +2,8 @@
 use Rattle.std.proofs.Common.{◌≡◌, ℕ, List}
 use Rattle.tm_circuit.specs.Plain.{Plain}
 use Rattle.blif_read.specs.declared.Limits.{Limits}
-use Rattle.blif_read.specs.Text as blif
-use Rattle.blif_read.proofs.OneCircuit.{excluded}
-use Rattle.blif_read.proofs.SomeCircuit.{same_circuit}
+use Rattle.blif_hier.specs.Text as blif
+use Rattle.blif_hier.proofs.OneHierarchy.{excluded, same_circuit}
 use Rattle.aiger_read.specs.Text as aiger
 use Rattle.aiger_read.proofs.AnswerLemmas.{one_circuit, not_both}
 use Rattle.text_read.specs.Texts.{Faulty, is_aiger, IsCircuitOf, IsFaultOf, OfAiger, OfBlif}

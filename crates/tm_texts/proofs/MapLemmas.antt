@@ -18,6 +18,7 @@ pub maps_of : (Covers : CoverRule) (k d : ℕ) (text bytes : List ℕ) (subject 
 maps_of Covers k d text bytes subject circuit cert tables registers split made written = record {
   source = split.source;
   of_text = split.of_text;
+  meaning = split.meaning;
   source_sound = split.source_sound;
   few = split.few;
   mapped = circuit;

@@ -2,18 +2,19 @@
 use Rattle.std.proofs.Common.{ℕ, List, refl}
 use Rattle.tm_circuit.specs.Plain.{Plain}
 use Rattle.tm_circuit.specs.Sound.{IsSound}
-use Rattle.text_read.specs.Texts.{IsCircuitOf}
+use Rattle.text_read.specs.Texts.{IsCircuitOf, ShowsMeaning}
 use Rattle.tm_texts.specs.declared.source.MapFault.{MapFault}
 use Rattle.tm_texts.specs.declared.source.MapFault.TheVariants as source_fault
 use Rattle.tm_texts.specs.Limits.{source_limits}
 use Rattle.tm_texts.proofs.InputLemmas.{same_input}
 use Rattle.tm_texts.specs.Sources.{fault, too_large, IsSubjectOf, IsMapFault, IsReadFault, IsSubject, IsSplitFault}
 
-pub subject_of : (k : ℕ) (text : List ℕ) (source subject : Plain) → IsCircuitOf source_limits text source → IsSound source → IsSubject k source subject
-    → IsSubjectOf k text subject
-subject_of k text source subject of_text sound split = record {
+pub subject_of : (k : ℕ) (text : List ℕ) (source subject : Plain) → IsCircuitOf source_limits text source → ShowsMeaning source_limits text source
+    → IsSound source → IsSubject k source subject → IsSubjectOf k text subject
+subject_of k text source subject of_text meaning sound split = record {
   source = source;
   of_text = of_text;
+  meaning = meaning;
   source_sound = sound;
   few = split.few;
   spelled = split.spelled;

@@ -29,7 +29,8 @@ pub record AreChecked (k : ℕ) (source mapped cert : List ℕ) (circuit : Plain
   pub of_mapped : IsCircuitOf mapped_limits mapped claimed
   pub of_cert : IsCertificateOf cert certificate
 
--- Three texts are accepted, with the period and the number of drops that the certificate says. The two circuits are sound, so that
+-- Three texts are accepted, with the period and the number of drops that the certificate says. The circuit of the first shows what that
+-- text means. The two circuits are sound, so that
 -- each has a trace for every list of rows, and they are Same; the mapped one has gates of at most `k` pins, and its period is just
 -- the certificate's. No mapping that is lawful for the subject circuit, by the rule of the certificate's version, has a smaller one.
 -- It does not matter how the texts were made.
@@ -41,6 +42,7 @@ pub record AreAccepted (k d : ℕ) (source mapped cert : List ℕ) (period drops
   pub accepted : IsAccepted (subject_of k circuit) claimed certificate k d
   pub period_is : period ≡ certificate.period
   pub drops_are : drops ≡ length certificate.drops
+  pub meaning : input.ShowsMeaning source_limits source circuit
   pub source_sound : IsSound circuit
   pub mapped_sound : IsSound claimed
   pub same : IsSame circuit claimed

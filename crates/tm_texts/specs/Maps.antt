@@ -29,7 +29,8 @@ pub record IsLeastMapping (c : Plain) (k d : ℕ) (mapping : List Table) (period
 
 -- A circuit is the mapped circuit of such a mapping of a subject circuit in which equal latches are one leaf: it is the joined circuit
 -- that is mapped, and covers of tables go by a rule. The circuit tells the mapping: no other lawful one has this mapped circuit.
-pub record IsLeastMapped (Covers : CoverRule) (k d : ℕ) (subject : Plain) (mapping : List Table) (period : ℕ) (mapped : Plain) : Type 0 where
+pub record IsLeastMapped (Covers : CoverRule) (k d : ℕ) (subject : Plain) (mapping : List Table) (period : ℕ)
+    (mapped : Plain) : Type 0 where
   pub joined : Plain
   pub joined_is : IsJoined subject joined
   pub least : IsLeastMapping joined k d mapping period
@@ -44,7 +45,8 @@ pub record IsCertified (k d : ℕ) (subject mapped : Plain) (cert : Certificate)
   pub spelled : HasSpelling cert
   pub short : HasFewDrops subject cert d
 
--- A text that maps another one, with a certificate. It is the one spelling of its circuit, the only one that it has, and the circuits of the
+-- A text that maps another one, with a certificate. The circuit of that one shows what it means: its outputs are those of its models as
+-- they are nested, or the output literals. The text is the one spelling of its circuit, the only one that it has, and the circuits of the
 -- two are Same. Both are sound, so that each has a trace for every list of rows, and exactly one: without that Same might say
 -- nothing. The circuit written has tables of at most `k` pins, this period and these numbers of tables and registers. It is the
 -- mapped circuit of the certificate's mapping, which is lawful for the subject circuit, and no lawful mapping has a smaller period.
@@ -52,6 +54,7 @@ pub record IsCertified (k d : ℕ) (subject mapped : Plain) (cert : Certificate)
 pub record Maps (Covers : CoverRule) (k d : ℕ) (text bytes : List ℕ) (cert : Certificate) (tables registers : ℕ) : Type 0 where
   pub source : Plain
   pub of_text : input.IsCircuitOf source_limits text source
+  pub meaning : input.ShowsMeaning source_limits text source
   pub source_sound : IsSound source
   pub few : length (subject_of k source).drives ≤ most_subject_signals
   pub mapped : Plain

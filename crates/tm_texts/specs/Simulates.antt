@@ -7,7 +7,7 @@ use Rattle.tm_circuit.specs.Trace.{IsTrace, shown}
 use Rattle.tm_sim.specs.Vectors.{vectors_of, text_of}
 use Rattle.tm_sim.specs.declared.vectors.VectorFault.TheVariants.{Text}
 use Rattle.tm_sim.specs.declared.vectors.VectorKind.{VectorKind}
-use Rattle.text_read.specs.Texts.{IsCircuitOf, IsFaultOf}
+use Rattle.text_read.specs.Texts.{IsCircuitOf, ShowsMeaning, IsFaultOf}
 use Rattle.tm_texts.specs.declared.simulate.SimFault.{SimFault}
 use Rattle.tm_texts.specs.declared.simulate.SimFault.TheVariants as fault
 use Rattle.tm_texts.specs.Limits.{output_bytes, mapped_limits}
@@ -26,11 +26,12 @@ pub record IsOutput (circuit : Plain) (rows outputs : List (List Bool)) : Type 0
   pub shows : (t : ℕ → ℕ → Bool) → IsTrace circuit rows t → outputs ≡ map (shown circuit t) (range_with_len 0 (length rows))
 
 -- The bytes are the output rows of the circuit of the text for the rows of the vectors, so many steps. The circuit is sound,
--- so that it has a trace for the rows, and exactly one.
+-- so that it has a trace for the rows, and exactly one, which shows what the text means.
 pub record Simulates (text vectors bytes : List ℕ) (steps : ℕ) : Type 0 where
   pub circuit : Plain
   pub rows : List (List Bool)
   pub has : HasRows text vectors circuit rows
+  pub meaning : ShowsMeaning mapped_limits text circuit
   pub sound : IsSound circuit
   pub few : bytes_of circuit rows ≤ output_bytes
   pub outputs : List (List Bool)

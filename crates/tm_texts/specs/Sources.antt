@@ -7,7 +7,7 @@ use Rattle.tm_parts.specs.Fits.{FitsMapping}
 use Rattle.tm_split.specs.Limits.{most_subject_signals}
 use Rattle.tm_split.specs.Subject.{subject_of}
 use Rattle.text_read.specs.declared.fault.TextKind.{TextKind}
-use Rattle.text_read.specs.Texts.{IsCircuitOf, IsFaultOf, too_many}
+use Rattle.text_read.specs.Texts.{IsCircuitOf, ShowsMeaning, IsFaultOf, too_many}
 use Rattle.tm_texts.specs.declared.source.MapFault.{MapFault}
 use Rattle.tm_texts.specs.declared.source.MapFault.TheVariants.{Text, NoMemory}
 use Rattle.tm_texts.specs.Limits.{source_limits}
@@ -20,10 +20,12 @@ pub record IsMappable (k : ℕ) (text : List ℕ) : Type 0 where
   pub of_text : IsCircuitOf source_limits text circuit
   pub few : length (subject_of k circuit).drives ≤ most_subject_signals
 
--- The circuit is the subject circuit of a text. It is Same as the text's circuit, narrow enough, and fit to be mapped.
+-- The circuit is the subject circuit of a text. It is Same as the text's circuit, which shows what the text means, narrow enough, and fit
+-- to be mapped.
 pub record IsSubjectOf (k : ℕ) (text : List ℕ) (subject : Plain) : Type 0 where
   pub source : Plain
   pub of_text : IsCircuitOf source_limits text source
+  pub meaning : ShowsMeaning source_limits text source
   pub source_sound : IsSound source
   pub few : length (subject_of k source).drives ≤ most_subject_signals
   pub spelled : subject ≡ subject_of k source

@@ -20,6 +20,7 @@ use cert_check::laws as check_laws;
 use cert_text::Cert;
 use std::alloc::Global;
 use tm_absorb::absorb;
+use tm_area::recover;
 use tm_bits::NoMemory;
 use tm_circuit::{Circuit, laws as circuit_laws};
 use tm_cover::choose;
@@ -57,8 +58,8 @@ struct LeastMapping {
 }
 
 /// Maps the circuit of a text to tables of at most `k` inputs, over each of which at most `d` registers move forward: wide gates are
-/// split, latches that are always equal count as one, and the period is the least that a lawful mapping has. Tables that fit into all
-/// their readers are absorbed.
+/// split, latches that are always equal count as one, and the period is the least that a lawful mapping has. Tables are recovered off
+/// the longest chains, and those that fit into all their readers are absorbed.
 pub fn map_text(alloc: Global, text: &[u8], k: u8, d: u8) -> Result<Mapped, MapFault>
     requires tables { (2 ≤ k) × (k ≤ most_inputs) }
     requires lags { d ≤ most_lag }
@@ -122,8 +123,8 @@ pub(crate) fn map_subject(
     })
 }
 
-// A mapping of the least period that any lawful mapping of the circuit has, and what shows that it is the least. Absorption leaves the
-// period as it is, since there is no smaller one.
+// A mapping of the least period that any lawful mapping of the circuit has, and what shows that it is the least. Fewer tables and
+// absorption leave the period as it is, since there is no smaller one.
 fn least_mapping(alloc: Global, circuit: &Circuit, k: u8, d: u8) -> Result<LeastMapping, NoMemory>
     requires tables { (2 ≤ k) × (k ≤ most_inputs) }
     requires lags { d ≤ most_lag }
@@ -138,7 +139,8 @@ fn least_mapping(alloc: Global, circuit: &Circuit, k: u8, d: u8) -> Result<Least
     let _ = circuit.signals();
     let least = least_for_outputs(alloc, 0, circuit, k, d)?;
     let chosen = choose(alloc, circuit, k, d, &least.at)?;
-    let mapping = absorb(alloc, circuit, k, d, &chosen)?;
+    let recovered = recover(alloc, circuit, k, d, &least.at, chosen)?;
+    let mapping = absorb(alloc, circuit, k, d, &recovered)?;
     Ok(LeastMapping {
         mapping,
         period: least.period,

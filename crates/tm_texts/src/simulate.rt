@@ -4,7 +4,7 @@ ghost use Rattle.std.specs.Prelude.{◌≡◌, ◌+◌, ◌*◌, ◌≤◌, leng
 ghost use Rattle.tm_circuit.specs.Plain.{input_count};
 ghost use Rattle.tm_circuit.specs.Sound.{IsSound};
 ghost use Rattle.tm_sim.specs.Vectors.{vectors_of};
-ghost use Rattle.text_read.specs.Texts.{IsCircuitOf};
+ghost use Rattle.text_read.specs.Texts.{IsCircuitOf, ShowsMeaning};
 ghost use Rattle.tm_texts.specs.Limits.{mapped_bytes, vector_bytes, output_bytes, mapped_limits};
 ghost use Rattle.tm_texts.specs.Simulates.{bytes_of, IsOutput, Simulates, IsSimFault};
 ghost use Rattle.tm_texts.specs.Rows.{IsCircuitFault, IsRowsFault};
@@ -77,6 +77,7 @@ pub fn sim_text(alloc: Global, text: &[u8], vectors: &[u8]) -> Result<Simulated,
 fn read_circuit(alloc: Global, text: &[u8]) -> Result<Circuit, SimFault>
     requires { length text.now ≤ mapped_bytes }
     ensures circuit { IfOk result (IsCircuitOf mapped_limits text.now) }
+    ensures meaning { IfOk result (ShowsMeaning mapped_limits text.now) }
     ensures fault { IfErr result (IsCircuitFault text.now) }
 {
     match read(alloc, text, &MAPPED) {

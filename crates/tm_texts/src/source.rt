@@ -4,7 +4,7 @@ ghost use Rattle.std.specs.Prelude.{◌≤◌, length, IfOk, IfErr};
 ghost use Rattle.tm_bits.specs.Limits.{most_inputs};
 ghost use Rattle.tm_circuit.specs.Sound.{IsSound};
 ghost use Rattle.tm_parts.specs.Names.{HasNamesWithin};
-ghost use Rattle.text_read.specs.Texts.{IsCircuitOf};
+ghost use Rattle.text_read.specs.Texts.{IsCircuitOf, ShowsMeaning};
 ghost use Rattle.tm_texts.specs.Limits.{source_bytes, source_limits};
 ghost use Rattle.tm_texts.specs.Sources.{IsSubjectOf, IsMapFault, IsReadFault, IsSubject, IsSplitFault};
 
@@ -14,7 +14,7 @@ use text_read::{TextFault, TextKind, laws as read_laws, read, too_many};
 use thiserror::Error;
 use tm_bits::NoMemory;
 use tm_circuit::Circuit;
-use tm_split::{SplitFault, subject};
+use tm_split::{SplitFault, into_subject};
 
 /// Why a text that is to be mapped has no subject circuit.
 #[derive(Clone, Copy, Debug, PartialEq, Eq, Error)]
@@ -46,13 +46,14 @@ pub(crate) fn subject_of_text(alloc: Global, text: &[u8], k: u8) -> Result<Circu
 {
     read_laws::short_names();
     let source = read_source(alloc, text)?;
-    split(alloc, text, &source, k)
+    split(alloc, text, source, k)
 }
 
 // The circuit of the text.
 fn read_source(alloc: Global, text: &[u8]) -> Result<Circuit, MapFault>
     requires { length text.now ≤ source_bytes }
     ensures circuit { IfOk result (IsCircuitOf source_limits text.now) }
+    ensures meaning { IfOk result (ShowsMeaning source_limits text.now) }
     ensures sound { IfOk result IsSound }
     ensures fault { IfErr result (IsReadFault text.now) }
 {
@@ -64,13 +65,13 @@ fn read_source(alloc: Global, text: &[u8]) -> Result<Circuit, MapFault>
 }
 
 // The subject circuit of the text's circuit, in which no gate has more than `k` pins.
-fn split(alloc: Global, text: &[u8], source: &Circuit, k: u8) -> Result<Circuit, MapFault>
+fn split(alloc: Global, text: &[u8], source: Circuit, k: u8) -> Result<Circuit, MapFault>
     requires tables { (2 ≤ k) × (k ≤ most_inputs) }
-    requires names { HasNamesWithin 255 source.now }
-    ensures subject { IfOk result (IsSubject k source.now) }
-    ensures fault { IfErr result (IsSplitFault k text.now source.now) }
+    requires names { HasNamesWithin 255 source }
+    ensures subject { IfOk result (IsSubject k source) }
+    ensures fault { IfErr result (IsSplitFault k text.now source) }
 {
-    match subject(alloc, source, k) {
+    match into_subject(alloc, source, k) {
         Ok(subject) => Ok(subject),
         Err(SplitFault::TooManySignals) => Err(MapFault::Text {
             line: 0,

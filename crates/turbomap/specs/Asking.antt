@@ -13,7 +13,8 @@ use Rattle.turbomap.specs.Map.{rule_of, map_command}
 use Rattle.turbomap.specs.Simulate.{sim_command}
 
 abbrev pub map_asked : MapWords → Command
-map_asked words = map_command (rule_of words.rows) words.k words.d words.input.now words.output.now (option_map (λ name. name.now) words.certificate)
+map_asked words =
+    map_command (rule_of words.rows) words.k words.d words.input.now words.output.now (option_map (λ name. name.now) words.certificate)
 
 abbrev pub check_asked : CheckWords → Command
 check_asked words = check_command words.k words.d words.input.now words.output.now words.certificate.now

@@ -55,7 +55,8 @@ map_form rows k d input output certificate =
 -- the words after `check`: K D IN OUT CERT
 abbrev pub check_of : List ℕ → List ℕ → List ℕ → List ℕ → List ℕ → Option Asked
 check_of k d input output certificate =
-    with_numbers k d (λ k d. if are_names (input ∷ output ∷ certificate ∷ []) then Some (check_files k d input output certificate) else None)
+    with_numbers k d
+    (λ k d. if are_names (input ∷ output ∷ certificate ∷ []) then Some (check_files k d input output certificate) else None)
 
 -- the words after `sim`: IN VECTORS OUT
 abbrev pub sim_of : List ℕ → List ℕ → List ℕ → Option Asked

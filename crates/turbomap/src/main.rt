@@ -16,6 +16,8 @@ mod kind;
 mod large;
 mod line;
 mod map_file;
+#[cfg(test)]
+mod models_rows;
 pub mod reading;
 mod ready;
 mod refusal;

@@ -1,7 +1,7 @@
 // The rows of the tests: texts, and what the program makes of them, worked out by hand.
 
-use crate::aiger_rows;
 use crate::check_rows::{RING3, RING3_MAPPED, TWIN, TWIN_CERT, TWIN_MAPPED};
+use crate::{aiger_rows, models_rows};
 
 // What stands for the text of a file that holds none.
 pub const NOTHING: &str = "nothing";
@@ -276,6 +276,7 @@ pub const MAPPINGS: &[Mapping] = &[
     // AIGER texts
     aiger_rows::MAP_FLIP,
     aiger_rows::MAP_AND,
+    models_rows::TWO_HALVES,
     // an empty text
     Mapping {
         k: "2",
@@ -372,6 +373,12 @@ pub const REFUSED: &[Refused] = &[
     aiger_rows::UNKNOWN_RESET,
     aiger_rows::MORE_SECTIONS,
     aiger_rows::UNDRIVEN,
+    models_rows::NO_MODEL,
+    models_rows::UNKNOWN_FORMAL,
+    models_rows::UNBOUND,
+    models_rows::BAD_BINDING,
+    models_rows::REPEATED_DRIVER,
+    models_rows::RECURSION,
     Refused {
         text: ".model h\n.inputs a\n.gate and2 A=a\n.end\n",
         said: "t.blif: line 3: LeftOut\n",

@@ -1,8 +1,9 @@
 use Rattle.std.proofs.lemmas.Result.{IfErr-weaker}
-use Rattle.blif_read.specs.Unit.{model_of}
-use Rattle.blif_read.specs.Circuit.{IsFaultOfModel}
-use Rattle.blif_read.specs.Text.{OnText, IsFaultOf}
-use Rattle.blif_read.proofs.TextLemmas.{named}
+use Rattle.blif_unit.specs.Unit.{model_of}
+use Rattle.blif_circuit.specs.Circuit.{IsFaultOfModel}
+use Rattle.blif_unit.specs.Fault.{OnText}
+use Rattle.blif_read.specs.Text.{IsFaultOf}
+use Rattle.blif_models.proofs.TextLemmas.{named}
 use Rattle.blif_read.proofs.OneCircuit.{excluded_all, fault_found}
 use Rattle.blif_read.proofs.read.Goals as goal
 

@@ -1,5 +1,5 @@
 use Rattle.std.proofs.Common.{◌≡◌}
-use Rattle.blif_read.specs.Text as blif
+use Rattle.blif_hier.specs.Text as blif
 use Rattle.aiger_read.specs.Text as aiger
 use Rattle.text_read.specs.Texts.{is_aiger, IsBlifFault, IsAigerFault}
 use Rattle.text_read.proofs.KindLemmas.{in_both, one_blif_fault, one_aiger_fault, no_blif_fault, no_aiger_fault}

@@ -1,5 +1,5 @@
 use Rattle.tm_parts.specs.Names.{HasNamesWithin}
-use Rattle.blif_read.specs.Text as blif
+use Rattle.blif_hier.specs.Text as blif
 use Rattle.aiger_read.specs.Text as aiger
 use Rattle.text_read.specs.Texts.{is_aiger}
 use Rattle.text_read.proofs.KindLemmas.{in_each}

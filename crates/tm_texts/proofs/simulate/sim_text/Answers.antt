@@ -7,6 +7,7 @@ returns-clause-simulates c =
       circuit = c.in_ok-circuit.circuit;
       rows = c.in_ok-rows.rows.rows;
       has = record { of_text = c.in_ok-circuit.ensures.circuit; of_vectors = rw c.inputs.ensures at c.in_ok-rows.ensures.rows };
+      meaning = c.in_ok-circuit.ensures.meaning;
       sound = c.in_ok-output.ensures.sound;
       few = omega (arith, product, c.if-saturating_mul-gt-OUTPUT_BYTES.false);
       outputs = c.in_ok-output.output.rows;

@@ -18,7 +18,7 @@ returns-clause-subject c =
     let text = c.args.text.now in
     let source = c.in_ok-source.source in
     IfOk-weaker c.split.result (IsSubject c.args.k source) (IsSubjectOf c.args.k text)
-    (λ subject is. subject_of c.args.k text source subject c.in_ok-source.ensures.circuit c.in_ok-source.ensures.sound is) c.split.ensures.subject
+    (λ subject is. subject_of c.args.k text source subject c.in_ok-source.ensures.circuit c.in_ok-source.ensures.meaning c.in_ok-source.ensures.sound is) c.split.ensures.subject
 
 pub returns-clause-fault : goal.returns-clause-fault
 returns-clause-fault c =

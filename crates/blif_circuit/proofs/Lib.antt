@@ -1,0 +1,10 @@
+pub mod SignalNames
+pub mod SignalCircle
+pub mod SignalClock
+pub mod SignalFaults
+pub mod SignalLaid
+pub mod SignalLoops
+pub mod SignalParts
+pub mod SignalUses
+pub mod SignalWhole
+pub mod CircleDecided

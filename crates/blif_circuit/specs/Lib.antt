@@ -1,0 +1,4 @@
+pub use Rattle.blif_unit.specs.Fault
+pub use Rattle.blif_unit.specs.Unit
+pub mod Circuit
+pub mod Signals

@@ -1,0 +1,17 @@
+pub use Rattle.blif_unit.specs.Fault
+pub use Rattle.blif_unit.specs.Unit
+pub use Rattle.blif_unit.specs.Fit
+pub mod Limits
+pub mod Places
+pub mod Flat
+pub mod Hier
+pub mod Graph
+pub mod Descent
+pub mod Sites
+pub mod Known
+pub mod Around
+pub mod Extent
+pub mod Size
+pub mod Run
+pub mod Plan
+pub mod Tree

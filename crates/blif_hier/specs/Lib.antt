@@ -1,0 +1,10 @@
+pub use Rattle.blif_unit.specs.Fault
+pub use Rattle.blif_unit.specs.Fit
+pub use Rattle.blif_unit.specs.Unit
+pub use Rattle.blif_models.specs.Several
+pub use Rattle.blif_flat.specs.Flat
+pub use Rattle.blif_flat.specs.Hier
+pub use Rattle.blif_read.specs.Whole
+pub mod Single
+pub mod Text
+pub mod Nested

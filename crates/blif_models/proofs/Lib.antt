@@ -1,0 +1,9 @@
+pub mod WordLemmas
+pub mod RowLemmas
+pub mod BlockLemmas
+pub mod UnitLemmas
+pub mod OrderlyLemmas
+pub mod TextLemmas
+pub mod PartLemmas
+pub mod SectionLemmas
+pub mod FitLemmas

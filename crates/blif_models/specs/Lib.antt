@@ -1,0 +1,9 @@
+pub use Rattle.blif_unit.specs.Fault
+pub use Rattle.blif_unit.specs.Fit
+pub use Rattle.blif_unit.specs.Unit
+pub mod Keyword
+pub mod Lines
+pub mod Sections
+pub mod Several
+pub mod Statement
+pub mod Words

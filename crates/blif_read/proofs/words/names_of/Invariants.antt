@@ -1,6 +1,0 @@
-use Rattle.std.proofs.Common.{◌≡◌, take}
-use Rattle.blif_read.specs.Words.{texts}
-use Rattle.blif_read.proofs.words.names_of.Given as goal
-
-abbrev pub invariant-loop-word : goal.invariant-loop-word
-invariant-loop-word l = l.names.items ≡ texts (take l.word-index l.words)

@@ -1,0 +1,170 @@
+// Cuts of a node with what they cost, of which the few best are kept.
+
+use smallvec::SmallVec;
+use std::alloc::Global;
+use tm_bits::NoMemory;
+use tm_unroll::Node;
+
+/// What the leaves of a cut come to: the greatest arrival of a table at one of them, their area flow, and their number.
+#[derive(Clone, Copy)]
+pub(crate) struct Weight {
+    pub arrival: u32,
+    pub flow: u64,
+    pub leaves: usize,
+}
+
+impl Weight {
+    /// Whether a cut with this weight comes before one with another: by area flow and then arrival, or the other way round where early
+    /// cuts are wanted, and then by number.
+    pub fn is_before(self, other: Weight, early: bool) -> bool {
+        if early && self.arrival != other.arrival {
+            return self.arrival < other.arrival;
+        }
+        if self.flow != other.flow {
+            return self.flow < other.flow;
+        }
+        self.is_nearer(other)
+    }
+
+    /// Whether a cut with this weight comes before one with another by arrival, and then by number.
+    pub fn is_nearer(self, other: Weight) -> bool {
+        if self.arrival != other.arrival {
+            return self.arrival < other.arrival;
+        }
+        self.leaves < other.leaves
+    }
+}
+
+/// A cut of a node: its leaves in ascending order, a sign of them (`sign_of`), and their weight.
+#[derive(Drop)]
+pub(crate) struct Cut {
+    pub leaves: SmallVec<Node, 8>,
+    pub sign: u64,
+    pub weight: Weight,
+}
+
+impl Cut {
+    /// Whether all leaves of this cut are leaves of another one, which is then of no use beside it.
+    fn is_within(&self, other: &Cut) -> bool {
+        self.sign & !other.sign == 0 && are_among(self.leaves.as_slice(), other.leaves.as_slice())
+    }
+}
+
+/// A sign of the signals of some leaves: a bit for the remainder of each.
+pub(crate) fn sign_of(leaves: &[Node]) -> u64 {
+    let mut sign = 0u64;
+    for leaf in leaves {
+        sign |= 1u64 << (leaf.signal.0 % 64);
+    }
+    sign
+}
+
+/// Whether some nodes are all among others.
+fn are_among(nodes: &[Node], others: &[Node]) -> bool {
+    for node in nodes {
+        if !is_among(*node, others) {
+            return false;
+        }
+    }
+    true
+}
+
+/// Whether a node is one of some.
+fn is_among(node: Node, others: &[Node]) -> bool {
+    for other in others {
+        if node == *other {
+            return true;
+        }
+    }
+    false
+}
+
+/// The leaves of two cuts together, unless they are more than `k`.
+pub(crate) fn merged(
+    alloc: Global,
+    k: u8,
+    left: &[Node],
+    right: &[Node],
+) -> Result<Option<SmallVec<Node, 8>>, NoMemory> {
+    let mut nodes = SmallVec::new(alloc);
+    let mut i = 0usize;
+    let mut j = 0usize;
+    for _ in 0..=k {
+        let Some(node) = lesser(left.get(i), right.get(j)) else {
+            return Ok(Some(nodes));
+        };
+        i = past(left, i, &node);
+        j = past(right, j, &node);
+        nodes.push(node)?;
+    }
+    Ok(None)
+}
+
+/// The lesser of two nodes, where there is one.
+fn lesser(left: Option<&Node>, right: Option<&Node>) -> Option<Node> {
+    let Some(x) = left else {
+        return right.copied();
+    };
+    let Some(y) = right else {
+        return Some(*x);
+    };
+    if x.is_before(*y) { Some(*x) } else { Some(*y) }
+}
+
+/// The place after this one, where the node at it is the one that was taken.
+fn past(nodes: &[Node], place: usize, taken: &Node) -> usize {
+    match nodes.get(place) {
+        Some(node) if *node == *taken => place.saturating_add(1),
+        _ => place,
+    }
+}
+
+/// Takes a cut among so many that are kept, which stand in order, unless a part of it is there or others are better; those of which
+/// it is a part go.
+pub(crate) fn offer(
+    cuts: &mut Vec<Cut>,
+    cut: Cut,
+    early: bool,
+    most: usize,
+) -> Result<(), NoMemory> {
+    let Some(place) = place_for(cuts, &cut, early, most) else {
+        return Ok(());
+    };
+    remove_wider(cuts, &cut, place);
+    let place = place.min(cuts.len());
+    cuts.insert(place, cut)?;
+    cuts.truncate(most);
+    Ok(())
+}
+
+/// The place at which a cut belongs among so many that are kept. What is a part of it comes before it.
+fn place_for(cuts: &[Cut], cut: &Cut, early: bool, most: usize) -> Option<usize> {
+    for (place, other) in cuts.iter().enumerate() {
+        if cut.weight.is_before(other.weight, early) {
+            return Some(place);
+        }
+        if other.is_within(cut) {
+            return None;
+        }
+    }
+    if cuts.len() < most {
+        Some(cuts.len())
+    } else {
+        None
+    }
+}
+
+/// Removes the cuts from a place on of which a cut is a part.
+fn remove_wider(cuts: &mut Vec<Cut>, cut: &Cut, place: usize) {
+    let mut place = place;
+    for _ in place..cuts.len() {
+        if place >= cuts.len() {
+            return;
+        }
+        if cut.is_within(&cuts[place]) {
+            cuts.remove(place);
+        } else {
+            place += 1;
+        }
+    }
+}

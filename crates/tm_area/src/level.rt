@@ -1,0 +1,201 @@
+// Cuts that are kept of nodes. They stand behind one another in one list, so that a node costs no allocation of its own.
+
+use crate::cuts::{Cut, Weight, sign_of};
+use std::alloc::Global;
+use tm_bits::NoMemory;
+use tm_circuit::{Circuit, Driver, Signal};
+use tm_unroll::Node;
+
+/// A stretch of a list.
+#[derive(Clone, Copy)]
+struct Span {
+    from: usize,
+    to: usize,
+}
+
+/// The span of what has nothing.
+const NOTHING: Span = Span { from: 0, to: 0 };
+
+/// A cut that is kept: where its leaves stand, a sign of their signals, by which two cuts are seen to be too large together, and the
+/// weight that they had.
+#[derive(Clone, Copy)]
+pub(crate) struct Kept {
+    leaves: Span,
+    pub sign: u64,
+    pub weight: Weight,
+}
+
+/// Cuts of nodes by their signals. In one for all nodes of an advance they are what may stand for a node among the leaves of a cut: the
+/// node itself, where it may be a leaf, and its cuts.
+#[derive(Drop)]
+pub(crate) struct Level {
+    leaves: Vec<Node>,
+    cuts: Vec<Kept>,
+    /// The cuts of each signal's node.
+    spans: Vec<Span>,
+}
+
+impl Kept {
+    /// Whether this cut and one with a sign surely have more than `k` leaves together.
+    pub fn is_too_large(&self, k: u8, sign: u64) -> bool {
+        (self.sign | sign).count_ones() > u32::from(k)
+    }
+}
+
+impl Level {
+    /// No cuts.
+    pub fn empty(alloc: Global, circuit: &Circuit) -> Result<Level, NoMemory> {
+        Ok(Level {
+            leaves: Vec::new(alloc),
+            cuts: Vec::new(alloc),
+            spans: vec![in alloc; NOTHING; circuit.signals() as usize]?,
+        })
+    }
+
+    /// A level of an advance, in which the inputs and latches have their cuts. `below` is the one of the advance before.
+    pub fn new(
+        alloc: Global,
+        circuit: &Circuit,
+        advance: u8,
+        below: Option<&Level>,
+    ) -> Result<Level, NoMemory> {
+        let mut level = Level::empty(alloc, circuit)?;
+        for s in 0..circuit.signals() {
+            level.add_end(circuit, Signal(s), advance, below)?;
+        }
+        Ok(level)
+    }
+
+    /// Gives an input or a latch its cuts: itself at present, and else what the latch reads one step before.
+    fn add_end(
+        &mut self,
+        circuit: &Circuit,
+        s: Signal,
+        advance: u8,
+        below: Option<&Level>,
+    ) -> Result<(), NoMemory> {
+        if s.0 >= circuit.signals() {
+            return Ok(());
+        }
+        let from = self.cuts.len();
+        match circuit.driver(s) {
+            Driver::Gate { .. } => return Ok(()),
+            Driver::Input => self.add_present(s, advance)?,
+            Driver::Latch { next, .. } => match below {
+                None => self.add_present(s, advance)?,
+                Some(below) => self.add_all_of(below, *next)?,
+            },
+        }
+        self.close(s, from);
+        Ok(())
+    }
+
+    /// Adds the cut of a node itself, where it is one of the present.
+    fn add_present(&mut self, signal: Signal, advance: u8) -> Result<(), NoMemory> {
+        if advance > 0 {
+            return Ok(());
+        }
+        let nothing = Weight {
+            arrival: 0,
+            flow: 0,
+            leaves: 1,
+        };
+        self.add_itself(signal, advance, nothing)
+    }
+
+    /// Adds the cut of a node itself.
+    fn add_itself(&mut self, signal: Signal, advance: u8, weight: Weight) -> Result<(), NoMemory> {
+        self.add_cut(&[Node { signal, advance }], weight)
+    }
+
+    /// Gives a gate's node its cuts: itself with a weight, where it may be a leaf, and some that were found.
+    pub fn add_gate(
+        &mut self,
+        gate: Signal,
+        advance: u8,
+        itself: Option<Weight>,
+        cuts: &[Cut],
+    ) -> Result<(), NoMemory> {
+        let from = self.cuts.len();
+        if let Some(weight) = itself {
+            self.add_itself(gate, advance, weight)?;
+        }
+        for cut in cuts {
+            self.add_cut(cut.leaves.as_slice(), cut.weight)?;
+        }
+        self.close(gate, from);
+        Ok(())
+    }
+
+    /// Adds all cuts that a signal's node has in another level.
+    fn add_all_of(&mut self, other: &Level, signal: Signal) -> Result<(), NoMemory> {
+        for cut in other.cuts_of(signal) {
+            self.add_cut(other.leaves_of(cut), cut.weight)?;
+        }
+        Ok(())
+    }
+
+    /// Adds a cut.
+    fn add_cut(&mut self, leaves: &[Node], weight: Weight) -> Result<(), NoMemory> {
+        let from = self.leaves.len();
+        self.leaves.extend_from_slice(leaves)?;
+        let to = self.leaves.len();
+        self.cuts.push(Kept {
+            leaves: Span { from, to },
+            sign: sign_of(leaves),
+            weight,
+        })?;
+        Ok(())
+    }
+
+    /// Makes the cuts from a place on those of a signal's node.
+    fn close(&mut self, signal: Signal, from: usize) {
+        let to = self.cuts.len();
+        if let Some(span) = self.spans.get_mut(signal.0 as usize) {
+            *span = Span { from, to };
+        }
+    }
+
+    /// The cuts of a signal's node.
+    pub fn cuts_of(&self, signal: Signal) -> &[Kept] {
+        match self.spans.get(signal.0 as usize) {
+            Some(span) if span.from <= span.to && span.to <= self.cuts.len() => {
+                &self.cuts[span.from..span.to]
+            }
+            _ => &[],
+        }
+    }
+
+    /// The places of the cuts of a signal's node among all.
+    pub fn places(&self, signal: Signal) -> (usize, usize) {
+        match self.spans.get(signal.0 as usize) {
+            Some(span) => (span.from, span.to),
+            None => (0, 0),
+        }
+    }
+
+    /// The leaves of the cut at a place.
+    pub fn leaves_at(&self, place: usize) -> &[Node] {
+        match self.cuts.get(place) {
+            Some(cut) => self.leaves_of(cut),
+            None => &[],
+        }
+    }
+
+    /// Sets the weight of the cut at a place.
+    pub fn set_weight(&mut self, place: usize, weight: Weight) {
+        if let Some(cut) = self.cuts.get_mut(place) {
+            cut.weight = weight;
+        }
+    }
+
+    /// The leaves of a cut.
+    pub fn leaves_of(&self, cut: &Kept) -> &[Node] {
+        let span = cut.leaves;
+        if span.from <= span.to && span.to <= self.leaves.len() {
+            &self.leaves[span.from..span.to]
+        } else {
+            &[]
+        }
+    }
+}
