@@ -38,7 +38,7 @@ hint() {
         *": ManyClocks") echo "there are several clocks, or both edges of one: map the part of each clock by itself" ;;
         *": GatedClock") echo "a gate or register makes the clock: give the registers an enable, \`if (on) q <= d;\`, in its place" ;;
         *": ClockAsData") echo "the clock is also read as data, or is an output: pass it around the part that is mapped" ;;
-        *": LeftOut") echo "a cell or statement isn't made of gates: flatten the design, and leave black boxes and memories outside" ;;
+        *": LeftOut" | *": NoModel") echo "a cell or statement isn't made of gates: leave black boxes and memories outside" ;;
         *": Undriven") echo "a signal that is read has no driver" ;;
         *": Loop") echo "gates read one another in a circle without a register" ;;
         *": TooManySignals") echo "more than 100,000 inputs, registers and gates: map parts of the design" ;;

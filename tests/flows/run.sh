@@ -42,8 +42,8 @@ yosys -q -p "read_verilog bench/designs/rotation.v; synth -flatten -top rotation
 expect "names by autoname" "$folder/long.blif: line N: LongName" "$("$program" map 4 2 "$folder/long.blif" "$folder/none.blif" | sed 's/line [0-9]*/line N/')"
 expect "a rotation" "gates 2202, period 49 with a table for each
 period 16 at D = 0
-period 11 at D = 2, tables 1272, registers 307
-turbomap check: accepted period 11 drops 2224
+period 11 at D = 2, tables 970, registers 287
+turbomap check: accepted period 11 drops 2221
 equivalence: shown by ABC" "$(flows/verilog_to_tables.sh bench/designs/rotation.v rotation 4 2 "$folder/tables.v" "$folder/kept")"
 
 expect "registers without an initial value" "registers without an initial value, read as 0: 1" \
@@ -65,6 +65,10 @@ refused "a name with a backslash" 5 "source.blif: line 4: BadByte
 the line is: .inputs c a\\b
 hint: a name has a \`\\\` or a byte that can't be printed: rename it in the source" \
     'module t(input c, \a\b , output reg q = 0); always @(posedge c) q <= \a\b ; endmodule'
+refused "a black box" 5 "source.blif: line 10: NoModel
+the line is: .subckt b d=d q=q
+hint: a cell or statement isn't made of gates: leave black boxes and memories outside" \
+    '(* blackbox *) module b(input d, output q); endmodule module t(input d, output q); b x(.d(d), .q(q)); endmodule'
 refused "an asynchronous reset" 1 "ERROR: FF t.NAME (type \$_DFF_PP0_) cannot be legalized: dffs with async set or reset are not supported
 hint: make resets synchronous, \`always @(posedge clk) if (reset) ...\`" \
     'module t(input c, r, d, output reg q = 0); always @(posedge c or posedge r) if (r) q <= 0; else q <= d; endmodule'

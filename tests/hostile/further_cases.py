@@ -1,20 +1,12 @@
-"""Hostile texts of further kinds, which are tried where the program reads such texts: several models, and ASCII AIGER."""
+"""Hostile texts of further kinds: several models, and ASCII AIGER."""
 
 from cases import mapped, nothing, refused
 from texts import SIGNALS, SOURCE, fill, joined, numbered
 
+ONE_TABLE = "period 1 tables 1 registers 0"
+
 
 # Several models.
-
-def models_probe():
-    return nothing("two models", [".subckt m\n.model m\n"])
-
-
-def unread_models(size):
-    """Lines of `.subckt` where several models are not read."""
-    yield refused("lines of .subckt", fill(".subckt m\n", size), "1: LeftOut")
-    yield refused("one line of .subckt", fill(" a=b", size, ".subckt m"), "1: LeftOut")
-
 
 def models(size):
     """Texts of so many bytes with many models, instances or bindings."""
@@ -32,31 +24,68 @@ def models(size):
     yield refused("one model again and again", fill(".model m\n", size), "2: RepeatedModel")
     yield refused("models with one input each", joined(numbered(lambda i: ".subckt m x=a\n", size // 16), ".inputs a\n.model m\n.inputs x\n"
                   ".outputs y\n.latch x y 0\n"), "0: TooManySignals")
+    yield from models_with_many_inputs(size // 24)
+    yield from models_too_large(size)
+    pins = " x" * 255
+    yield mapped("pins that are bound through 64 models", nested(numbered(lambda i: f".names{pins} g{i}\n", size // 530)), ONE_TABLE)
+
+
+def models_with_many_inputs(inputs):
+    """An instance with so many inputs, and one with an input that isn't bound."""
+    def text(formals):
+        return joined(".inputs a\n.subckt m", numbered(lambda i: f" x{i:0>7}=a", inputs), "\n.model m\n.inputs",
+                      numbered(lambda i: f" x{i:0>7}", formals), "\n")
+
+    yield nothing("an instance of many inputs", text(inputs))
+    yield refused("an instance of which an input isn't bound", text(inputs + 1), "2: Unbound")
+
+
+def models_too_large(size):
+    """Texts of so many bytes, of which the flat unit would be larger by far."""
+    yield refused("instances with a long joiner", joined(f".names {'@' * 254}\n", fill(".subckt m\n", size - 300), ".model m\n.names a\n"),
+                  "0: TooLarge")
+    yield refused("instances with many rows", joined(fill(".subckt m\n", size // 2), fill("1- 1\n", size // 2, ".model m\n.names a b y\n")),
+                  "0: TooLarge")
+
+
+def nested(statements):
+    """An inverter, with more statements, in the innermost of 64 models."""
+    inner = numbered(lambda i: f".model m{i}\n.inputs x\n.outputs y\n.subckt m{i + 1} x=x y=y\n", 63, 1)
+    return joined(".model m0\n.inputs a\n.outputs y\n.subckt m1 x=a y=y\n", inner, ".model m64\n.inputs x\n.outputs y\n.names x y\n0 1\n",
+                  statements)
 
 
 def models_at_limits():
-    def nested(depth, times):
+    def placed(depth, times):
         return joined(numbered(lambda i: f".model m{i}\n" + f".subckt m{i + 1}\n" * times, depth), f".model m{depth}\n")
 
     # With its own name the unit comes to 67,108,864 names' bytes and instances.
     most = joined(".model t\n", ".subckt m\n" * 8191, ".subckt e\n" * 8191, ".model m\n", ".subckt e\n" * 8191, ".model e\n")
     more = joined(".model t\n", ".subckt m\n" * 8191, ".subckt e\n" * 8192, ".model m\n", ".subckt e\n" * 8191, ".model e\n")
-    yield nothing("64 models one in the other", nested(64, 1))
-    yield refused("65 models one in the other", nested(65, 1), "0: TooDeep")
-    yield refused("64 models, each placed twice in the other", nested(64, 2), "0: TooLarge")
-    yield refused("65 models, each placed twice in the other", nested(65, 2), "0: TooDeep")
+    yield nothing("64 models one in the other", placed(64, 1))
+    yield mapped("a gate in the innermost of 64 models", nested(""), ONE_TABLE)
+    yield refused("65 models one in the other", placed(65, 1), "0: TooDeep")
+    yield refused("64 models, each placed twice in the other", placed(64, 2), "0: TooLarge")
+    yield refused("65 models, each placed twice in the other", placed(65, 2), "0: TooDeep")
     yield nothing("a unit as large as may be", most)
     yield refused("a unit larger by one", more, "0: TooLarge")
+    yield from names_at_limits()
+
+
+def names_at_limits():
+    """Names of 255 bytes and of 256: in bindings, in instances, and by the joiner."""
     sides = f".subckt m {'x' * 255}={'a' * 255}\n.inputs {'a' * 255}\n.model m\n.inputs {'x' * 255}\n"
     yield nothing("a binding of two names of 255 bytes", [sides])
     yield refused("a binding with a name of 256 bytes", [sides.replace("=", "=a")], "1: LongName")
+    inside = f".subckt m\n.model m\n.names {'n' * 253}\n"
+    yield nothing("a name of 255 bytes with its instance", [inside])
+    yield refused("a name of 256 bytes with its instance", [inside.replace("nn", "nnn", 1)], "3: LongName")
+    signs = f".names {'@' * 252}\n.subckt m\n.model m\n.names a\n"
+    yield nothing("a name of 255 bytes with its joiner", [signs])
+    yield refused("a name of 256 bytes with its joiner", [signs.replace("@", "@@", 1)], "4: LongName")
 
 
 # AIGER.
-
-def aiger_probe():
-    return nothing("an AIGER text", ["aag 0 0 0 0 0\n"])
-
 
 def aiger(name, text, line):
     return mapped("AIGER: " + name, text, line)

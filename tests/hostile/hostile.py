@@ -120,13 +120,8 @@ class Runner:
                 if more > 8 * less + 0.5:
                     self.fail(whole.name, f"{more:.2f} s where a quarter of it takes {less:.2f} s")
 
-    def reads(self, case):
-        """Whether the program reads texts of a kind."""
-        self.write("in.blif", case.files["in.blif"])
-        return self.run(case.words)[0] == case.status
 
-
-def tasks(runner, everything):
+def tasks(everything):
     """What has to be tried: a method of a runner, and what it is given."""
     one, sizes = Runner.try_all, Runner.try_sizes
     longer = [(one, cases.settled_longer()), (one, cases.longest())] if everything else []
@@ -134,16 +129,9 @@ def tasks(runner, everything):
             (sizes, cases.latches, SIGNALS), (sizes, cases.wide_gates, 60_000), (sizes, cases.long_named, 4000), (one, cases.limits())]
     others = [(sizes, cases.certificates, SOURCE), (one, cases.certificates_at_limits()), (sizes, cases.vectors, SOURCE),
               (one, cases.vectors_past_limits())]
-    models, aiger = [(sizes, further_cases.unread_models, SOURCE)], []
-    if runner.reads(further_cases.models_probe()):
-        models = [(one, further_cases.models_at_limits()), (sizes, further_cases.models, SOURCE)]
-    else:
-        say("several models are skipped, they aren't read")
-    if runner.reads(further_cases.aiger_probe()):
-        aiger = [(one, further_cases.aiger_at_limits()), (one, further_cases.aiger_settled()), (sizes, further_cases.aiger_texts, SOURCE),
-                 (sizes, further_cases.aiger_circuits, SIGNALS)]
-    else:
-        say("AIGER is skipped, it isn't read")
+    models = [(one, further_cases.models_at_limits()), (sizes, further_cases.models, SOURCE)]
+    aiger = [(one, further_cases.aiger_at_limits()), (one, further_cases.aiger_settled()), (sizes, further_cases.aiger_texts, SOURCE),
+             (sizes, further_cases.aiger_circuits, SIGNALS)]
     return longer + blif + models + aiger + others
 
 
@@ -163,7 +151,7 @@ def main():
             free.put(runner)
 
     with concurrent.futures.ThreadPoolExecutor(len(runners)) as pool:
-        list(pool.map(take, tasks(runners[0], sys.argv[3:4] == ["all"])))
+        list(pool.map(take, tasks(sys.argv[3:4] == ["all"])))
     failed = sum(runner.failed for runner in runners)
     say(f"{sum(runner.count for runner in runners)} runs, {failed} failures")
     return min(failed, 1)

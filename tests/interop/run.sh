@@ -21,13 +21,18 @@ fail() {
     failed=1
 }
 
-# Maps a text with lags of at most so many steps, 0 unless given, and asks ABC whether what is written and the text, or another BLIF text of
-# the same design, are sequentially equivalent.
+# Asks ABC whether two texts are sequentially equivalent.
+compare() {
+    "$abc" -c "dsec $1 $2" >"$folder/verdict" 2>&1
+    grep -q 'Networks are equivalent' "$folder/verdict" || fail "$2 isn't shown equivalent: $(tail -n 3 "$folder/verdict")"
+}
+
+# Maps a text with lags of at most so many steps, 0 unless given, and has what is written compared with the text, or with another BLIF
+# text of the same design.
 map_and_compare() {
     local text=$1 mapped=$2 lags=${3:-0} other=${4:-$1}
     "$program" map 4 "$lags" "$text" "$mapped" >"$folder/said" || { fail "$text is refused: $(cat "$folder/said")"; return; }
-    "$abc" -c "dsec $other $mapped" >"$folder/verdict" 2>&1
-    grep -q 'Networks are equivalent' "$folder/verdict" || fail "$mapped isn't shown equivalent: $(tail -n 3 "$folder/verdict")"
+    compare "$other" "$mapped"
 }
 
 for design in gray_counter serial_sender; do
@@ -49,5 +54,20 @@ for lags in 0 2; do
     echo "interop: checksum with lags of at most $lags: $(cat "$folder/said")"
 done
 
-[ "$failed" -eq 0 ] && echo "interop: 8 texts passed"
+# A design in its three modules, one of them placed twice and one with a parameter, against the same design flattened by Yosys, and
+# against its modules as ABC nests them.
+gates="dfflegalize -cell \$_DFF_P_ 01; abc -g simple; setundef -zero -undriven; opt_clean -purge; rename -enumerate"
+"$yosys" -q -p "read_verilog tests/interop/line_race.v; synth -top line_race; $gates; write_blif $folder/written.blif" &&
+    "$yosys" -q -p "read_verilog tests/interop/line_race.v; synth -flatten -top line_race; $gates; write_blif $folder/flat.blif" ||
+    fail "yosys ends with an error on line_race"
+sed '/^\.\(model\|subckt\) /s/\\/./g' "$folder/written.blif" >"$folder/modules.blif"
+[ "$(grep -c '^\.model ' "$folder/modules.blif"):$(grep -c '^\.subckt ' "$folder/modules.blif")" = 3:3 ] ||
+    fail "yosys leaves other modules than those of line_race"
+for lags in 0 1; do
+    map_and_compare "$folder/modules.blif" "$folder/modules.$lags.blif" "$lags" "$folder/flat.blif"
+    compare "$folder/modules.blif" "$folder/modules.$lags.blif"
+    echo "interop: line_race with lags of at most $lags: $(cat "$folder/said")"
+done
+
+[ "$failed" -eq 0 ] && echo "interop: 10 texts passed"
 exit "$failed"

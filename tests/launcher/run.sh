@@ -73,6 +73,12 @@ cp turbomap "$copy/turbomap"
 touch -d '2 hours ago' "$copy/crates.txt" "$copy/crates/turbomap/src/main.rt"
 cat >"$folder/bin/rt" <<'END'
 #!/bin/sh
+if [ "$1" = all ]; then
+    sed 's/:.*//' crates.txt | while read -r name; do
+        mkdir -p "crates/$name/out/rlib" && touch "crates/$name/out/rlib/stamp" && echo "== $name"
+    done
+    exit
+fi
 [ -e refuse ] && exit 1
 echo bad command line
 mkdir -p out && printf '#!/bin/sh\necho ran\n' >out/turbomap && chmod +x out/turbomap
@@ -93,6 +99,16 @@ touch -d '1 hour ago' "$copy/crates/turbomap/out/turbomap" "$copy/crates/turboma
 touch "$copy/crates/turbomap/refuse" "$copy/crates/turbomap/src/main.rt"
 launch >/dev/null
 expect "the status where it can't be built" 9 $?
+
+# A first build proves the crates that the program stands on side by side, and no others.
+rm -rf "$copy/crates/turbomap/out" "$copy/crates/turbomap/refuse"
+touch "$copy/HANDLES"
+for name in a b c d e f; do mkdir -p "$copy/crates/$name"; done
+printf '%s\n' '# all' 'a: kit' 'b: a' 'c: kit' 'd: b' 'e: d c' 'turbomap: e' 'f: a' >"$copy/crates.txt"
+expect "a first build" "ran" "$(launch)"
+expect "its crates" "1 of 6 crates: a
+6 of 6 crates: turbomap" "$(sed -n 's/^turbomap: \([16] of .*\)/\1/p' "$folder/built")"
+expect "what it leaves" "a b c d e " "$(for name in a b c d e f; do [ -e "$copy/crates/$name/out/rlib/stamp" ] && echo -n "$name "; done)"
 
 [ "$failed" -eq 0 ] && echo "launcher: $checks checks passed"
 exit "$failed"
