@@ -105,7 +105,8 @@ impl Level {
 
     /// Adds the cut of a node itself.
     fn add_itself(&mut self, signal: Signal, advance: u8, weight: Weight) -> Result<(), NoMemory> {
-        self.add_cut(&[Node { signal, advance }], weight)
+        let itself = [Node { signal, advance }];
+        self.add_cut(&itself, sign_of(&itself), weight)
     }
 
     /// Gives a gate's node its cuts: itself with a weight, where it may be a leaf, and some that were found.
@@ -121,7 +122,7 @@ impl Level {
             self.add_itself(gate, advance, weight)?;
         }
         for cut in cuts {
-            self.add_cut(cut.leaves.as_slice(), cut.weight)?;
+            self.add_cut(cut.leaves.as_slice(), cut.sign, cut.weight)?;
         }
         self.close(gate, from);
         Ok(())
@@ -130,19 +131,19 @@ impl Level {
     /// Adds all cuts that a signal's node has in another level.
     fn add_all_of(&mut self, other: &Level, signal: Signal) -> Result<(), NoMemory> {
         for cut in other.cuts_of(signal) {
-            self.add_cut(other.leaves_of(cut), cut.weight)?;
+            self.add_cut(other.leaves_of(cut), cut.sign, cut.weight)?;
         }
         Ok(())
     }
 
-    /// Adds a cut.
-    fn add_cut(&mut self, leaves: &[Node], weight: Weight) -> Result<(), NoMemory> {
+    /// Adds a cut with its sign.
+    fn add_cut(&mut self, leaves: &[Node], sign: u64, weight: Weight) -> Result<(), NoMemory> {
         let from = self.leaves.len();
         self.leaves.extend_from_slice(leaves)?;
         let to = self.leaves.len();
         self.cuts.push(Kept {
             leaves: Span { from, to },
-            sign: sign_of(leaves),
+            sign,
             weight,
         })?;
         Ok(())

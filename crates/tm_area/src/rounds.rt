@@ -3,7 +3,7 @@
 ghost use Rattle.std.specs.Prelude.{◌≡◌, length};
 
 use crate::counts::{MOST_TRIED, leaves_in};
-use crate::cuts::{Cut, Weight, merged, offer, sign_of};
+use crate::cuts::{Cut, Weight, merged, offer};
 use crate::level::{Kept, Level};
 use crate::plan::{Fact, Plan};
 use smallvec::SmallVec;
@@ -11,7 +11,7 @@ use std::alloc::Global;
 use tm_bits::NoMemory;
 use tm_circuit::{Circuit, Driver, Signal};
 use tm_labels::Settled;
-use tm_unroll::Mapping;
+use tm_unroll::{Mapping, Node};
 
 /// By what a round chooses.
 #[derive(Clone, Copy, PartialEq, Eq)]
@@ -53,8 +53,11 @@ const FEW_ROUNDS: [(Aim, Offers); 3] = [
     (Aim::Exact, Offers::Again),
 ];
 
-/// The most cuts that are kept of a node: where no label has a lag, where some have, and of many nodes.
-const MOST_CUTS: [usize; 3] = [8, 6, 4];
+/// The most cuts that are kept of a node.
+const MOST_CUTS: usize = 6;
+
+/// The most cuts that are kept of each of many nodes.
+const FEW_CUTS: usize = 4;
 
 /// The most cuts that are kept of a node behind a register beside itself, which costs no arrival.
 const CUTS_BEHIND: usize = 1;
@@ -74,11 +77,9 @@ pub(crate) fn lighter(
     let (rounds, most): (&[(Aim, Offers)], usize) = if circuit.gates().saturating_mul(lags)
         > MANY_NODES
     {
-        (&FEW_ROUNDS, MOST_CUTS[2])
-    } else if plan.deepest > 0 {
-        (&ROUNDS, MOST_CUTS[1])
+        (&FEW_ROUNDS, FEW_CUTS)
     } else {
-        (&ROUNDS, MOST_CUTS[0])
+        (&ROUNDS, MOST_CUTS)
     };
     for (aim, offers) in rounds {
         let round = Round {
@@ -102,6 +103,14 @@ pub(crate) fn lighter(
 struct Wanted {
     required: u32,
     most: usize,
+}
+
+/// A cut of some pins, which is to be put together with those of one more.
+#[derive(Clone, Copy)]
+struct Part<'a> {
+    leaves: &'a [Node],
+    sign: u64,
+    weight: Weight,
 }
 
 /// A round over a circuit, for cuts of at most `k` leaves.
@@ -225,7 +234,10 @@ impl Round<'_> {
         let Some((first, others)) = pins.split_first() else {
             return self.without_leaves();
         };
-        let mut cuts = self.taken(level, *first, wanted.required)?;
+        let Some((second, others)) = others.split_first() else {
+            return self.taken(level, *first, wanted.required);
+        };
+        let mut cuts = self.joined_both(plan, level, *first, *second, wanted)?;
         for pin in others {
             cuts = self.joined(plan, level, &cuts, *pin, wanted)?;
         }
@@ -265,6 +277,27 @@ impl Round<'_> {
         Ok(cuts)
     }
 
+    /// The best cuts of one signal with those of another.
+    fn joined_both(
+        &self,
+        plan: &Plan,
+        level: &Level,
+        first: Signal,
+        second: Signal,
+        wanted: Wanted,
+    ) -> Result<Vec<Cut>, NoMemory> {
+        let mut kept = Vec::with_capacity(self.alloc, wanted.most.saturating_add(1))?;
+        for cut in level.cuts_of(first) {
+            let part = Part {
+                leaves: level.leaves_of(cut),
+                sign: cut.sign,
+                weight: cut.weight,
+            };
+            self.join(plan, level, &mut kept, part, second, wanted)?;
+        }
+        Ok(kept)
+    }
+
     /// The best of some cuts with those of one signal more.
     fn joined(
         &self,
@@ -276,31 +309,38 @@ impl Round<'_> {
     ) -> Result<Vec<Cut>, NoMemory> {
         let mut kept = Vec::with_capacity(self.alloc, wanted.most.saturating_add(1))?;
         for cut in cuts {
-            self.join(plan, level, &mut kept, cut, pin, wanted)?;
+            let part = Part {
+                leaves: cut.leaves.as_slice(),
+                sign: cut.sign,
+                weight: cut.weight,
+            };
+            self.join(plan, level, &mut kept, part, pin, wanted)?;
         }
         Ok(kept)
     }
 
-    /// Offers a cut with each cut of a signal.
+    /// Offers a part with each cut of a signal.
     fn join(
         &self,
         plan: &Plan,
         level: &Level,
         kept: &mut Vec<Cut>,
-        cut: &Cut,
+        part: Part<'_>,
         pin: Signal,
         wanted: Wanted,
     ) -> Result<(), NoMemory> {
-        let leaves = cut.leaves.as_slice();
+        if part.weight.arrival >= wanted.required {
+            return Ok(());
+        }
         for other in level.cuts_of(pin) {
-            if self.is_useless(kept, cut, other, wanted) {
+            if self.is_useless(kept, part.sign, part.weight, other, wanted) {
                 continue;
             }
-            if let Some(both) = merged(self.alloc, self.k, leaves, level.leaves_of(other))? {
-                let weight = plan.weigh(both.as_slice());
-                let sign = cut.sign | other.sign;
+            if let Some(leaves) = merged(self.alloc, self.k, part.leaves, level.leaves_of(other))? {
+                let weight = plan.weigh(leaves.as_slice());
+                let sign = part.sign | other.sign;
                 let both = Cut {
-                    leaves: both,
+                    leaves,
                     sign,
                     weight,
                 };
@@ -310,18 +350,25 @@ impl Round<'_> {
         Ok(())
     }
 
-    /// Whether two cuts together are surely too large, too late, or behind all that are kept.
-    fn is_useless(&self, kept: &[Cut], cut: &Cut, other: &Kept, wanted: Wanted) -> bool {
-        let at_best = Weight {
-            arrival: cut.weight.arrival.max(other.weight.arrival),
-            flow: cut.weight.flow.max(other.weight.flow),
-            leaves: 0,
-        };
-        if at_best.arrival >= wanted.required || other.is_too_large(self.k, cut.sign) {
+    /// Whether a cut with a sign and a weight is surely too large together with another, or too late, or behind all that are kept.
+    fn is_useless(
+        &self,
+        kept: &[Cut],
+        sign: u64,
+        weight: Weight,
+        other: &Kept,
+        wanted: Wanted,
+    ) -> bool {
+        if other.weight.arrival >= wanted.required || other.is_too_large(self.k, sign) {
             return true;
         }
         match kept.last() {
             Some(last) if kept.len() >= wanted.most => {
+                let at_best = Weight {
+                    arrival: weight.arrival.max(other.weight.arrival),
+                    flow: weight.flow.max(other.weight.flow),
+                    leaves: 0,
+                };
                 !at_best.is_before(last.weight, self.aim == Aim::Early)
             }
             _ => false,
