@@ -26,6 +26,24 @@ impl Weight {
         self.is_nearer(other)
     }
 
+    /// The least that two cuts can come to together, and exactly that where they have no leaf in common.
+    pub fn at_best_with(self, other: Weight, are_apart: bool) -> Weight {
+        let arrival = self.arrival.max(other.arrival);
+        if are_apart {
+            Weight {
+                arrival,
+                flow: self.flow.saturating_add(other.flow),
+                leaves: self.leaves.saturating_add(other.leaves),
+            }
+        } else {
+            Weight {
+                arrival,
+                flow: self.flow.max(other.flow),
+                leaves: self.leaves.max(other.leaves),
+            }
+        }
+    }
+
     /// Whether a cut with this weight comes before one with another by arrival, and then by number.
     pub fn is_nearer(self, other: Weight) -> bool {
         if self.arrival != other.arrival {

@@ -364,11 +364,7 @@ impl Round<'_> {
         }
         match kept.last() {
             Some(last) if kept.len() >= wanted.most => {
-                let at_best = Weight {
-                    arrival: weight.arrival.max(other.weight.arrival),
-                    flow: weight.flow.max(other.weight.flow),
-                    leaves: 0,
-                };
+                let at_best = weight.at_best_with(other.weight, sign & other.sign == 0);
                 !at_best.is_before(last.weight, self.aim == Aim::Early)
             }
             _ => false,
