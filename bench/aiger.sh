@@ -18,10 +18,9 @@ fi
 PYTHONPATH=$here PYTHONDONTWRITEBYTECODE=1 python3 - "$@" <<'END'
 import os
 import random
-import subprocess
 import tempfile
 
-from timing import PROGRAM, runs_wanted, seconds
+from timing import report, runs_wanted, seconds, written
 
 SIZES = [7_000, 70_000]
 OUTPUTS = 8
@@ -76,17 +75,6 @@ class Design:
         lines += [self.gate([literal], f"x%{place}") for place, literal in enumerate(self.nexts) if literal % 2]
         lines += [self.gate([literal], f"o%{place}") for place, literal in enumerate(self.outputs)]
         return "\n".join([*lines, ".end", ""])
-
-
-def written(folder, name, text):
-    path = os.path.join(folder, name)
-    with open(path, "w") as file:
-        file.write(text)
-    return path
-
-
-def report(path):
-    return subprocess.run([PROGRAM, "show", path], check=True, stdout=subprocess.PIPE).stdout
 
 
 def main():

@@ -16,7 +16,7 @@ for text in "$@"; do
     data+=(--data "$name=$(realpath "$text")")
 done
 . "$(dirname "$0")/repository.sh"
-repository tm_bits tm_store tm_circuit tm_parts tm_twins tm_flow blif_lex blif_read tm_split tm_unroll tm_replay tm_merge tm_inherit \
+repository tm_bits tm_store tm_circuit tm_parts tm_twins tm_flow blif_lex blif_unit blif_models blif_circuit blif_read tm_split tm_unroll tm_replay tm_merge tm_inherit \
     tm_labels tm_cover tm_search cert_text tm_shorten
 program_crate certificate_sizes tm_bits tm_store tm_circuit tm_twins blif_read tm_split tm_unroll tm_replay tm_labels tm_cover tm_search cert_text tm_shorten
 

@@ -13,17 +13,10 @@ import random
 import tempfile
 
 from first_path import random_circuit
-from timing import runs_wanted, seconds
+from timing import runs_wanted, seconds, written
 
 GATES = 20_000
 STEPS = 1_000
-
-
-def written(folder, name, text):
-    path = os.path.join(folder, name)
-    with open(path, "w") as file:
-        file.write(text)
-    return path
 
 
 def vectors(width, steps):

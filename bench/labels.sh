@@ -5,8 +5,9 @@
 #
 # Circuits as in the sample texts of bench/map.py, of 1,000 to 20,000 gates, are settled at K 4 and 6 and D 0, 2 and 8, at the
 # least period and at the one below. Each row has the microseconds and the drops of the two settlings of the gates that lead to
-# an output, those of the search for the period as a whole, and those of a settling of all gates at the least period.
-# The last rows are loops with a register, whose gates have side inputs behind nine registers each, at one below the least period.
+# an output, and those of the two settlings of all gates with the searches made, in all and for each gate; before them stand the
+# microseconds of the search for the period as a whole. At the end stand the exponents of the times over the sizes.
+# Then come loops with a register, whose gates have side inputs behind nine registers each, at one below the least period.
 #
 # A program crate is made in a temporary repository beside copies of the crates that it stands on.
 set -eu
@@ -31,7 +32,7 @@ use std::rt::Clock;
 use std::time::Instant;
 use tm_bits::NoMemory;
 use tm_circuit::Circuit;
-use tm_labels::{Settled, settle, settle_outputs};
+use tm_labels::{Settled, Work, settle_outputs};
 use tm_search::{Least, least_for_outputs};
 
 /// What is settled: for tables of `k` leaves at most, lags of `d` steps at most, and a target.
@@ -40,6 +41,13 @@ struct Task {
     k: u8,
     d: u8,
     target: u32,
+}
+
+/// What a settling made.
+#[derive(Clone, Copy)]
+struct Counts {
+    drops: usize,
+    searches: u64,
 }
 
 fn fits(circuit: &Circuit, task: &Task) -> bool
@@ -60,11 +68,20 @@ fn settled_outputs(alloc: Global, circuit: &Circuit, task: &Task) -> Result<Opti
     Ok(Some(settle_outputs(alloc, 0, circuit, task.k, task.d, task.target)?))
 }
 
-fn settled_all(alloc: Global, circuit: &Circuit, task: &Task) -> Result<Option<Settled>, NoMemory> {
+fn settled_all(alloc: Global, circuit: &Circuit, task: &Task) -> Result<Option<Counts>, NoMemory> {
     if !fits(circuit, task) {
         return Ok(None);
     }
-    Ok(Some(settle(alloc, circuit, task.k, task.d, task.target)?))
+    let mut work = Work::new(alloc, circuit, task.k, task.d, task.target)?;
+    for _ in 0..u64::MAX {
+        if !work.turn()? {
+            break;
+        }
+    }
+    Ok(Some(Counts {
+        drops: work.drops().len(),
+        searches: work.searches(),
+    }))
 }
 
 fn least(alloc: Global, circuit: &Circuit, task: &Task) -> Result<Option<Least>, NoMemory> {
@@ -85,13 +102,26 @@ fn micros<R: Clock>(rt: &R, start: Instant) -> io::Result<u128> {
     Ok(start.elapsed(rt)?.as_micros())
 }
 
-fn settle_row<R: Clock + Print + Alloc + AllocGlobal>(rt: &R, what: &str, circuit: &Circuit, task: &Task, all: bool) -> io::Result<()> {
+fn outputs_row<R: Clock + Print + Alloc + AllocGlobal>(rt: &R, circuit: &Circuit, task: &Task) -> io::Result<()> {
     let start = Instant::now(rt)?;
-    let found = if all { settled_all(rt.alloc(), circuit, task) } else { settled_outputs(rt.alloc(), circuit, task) };
+    let found = settled_outputs(rt.alloc(), circuit, task);
     let time = micros(rt, start)?;
     let drops = drops_of(&found);
     let target = task.target;
-    println!(rt; "  {what} {target}: {time} us, {drops} drops")
+    println!(rt; "  outputs at {target}: {time} us, {drops} drops")
+}
+
+fn all_row<R: Clock + Print + Alloc + AllocGlobal>(rt: &R, circuit: &Circuit, task: &Task) -> io::Result<()> {
+    let start = Instant::now(rt)?;
+    let found = settled_all(rt.alloc(), circuit, task);
+    let time = micros(rt, start)?;
+    let (drops, searches) = match found {
+        Ok(Some(counts)) => (counts.drops, counts.searches),
+        Ok(None) | Err(_) => (0, 0),
+    };
+    let hundredths = searches.saturating_mul(100) / u64::from(circuit.gates()).max(1);
+    let target = task.target;
+    println!(rt; "  all at {target}: {time} us, {drops} drops, {searches} searches, {hundredths} for 100 gates")
 }
 
 fn rows<R: Clock + Print + Alloc + AllocGlobal>(rt: &R, circuit: &Circuit, k: u8, d: u8) -> io::Result<()> {
@@ -105,9 +135,10 @@ fn rows<R: Clock + Print + Alloc + AllocGlobal>(rt: &R, circuit: &Circuit, k: u8
     let signals = circuit.signals();
     println!(rt; "{signals} signals K {k} D {d}: least period {period}, {time} us")?;
     let below = period.saturating_sub(1);
-    settle_row(rt, "outputs at", circuit, &Task { k, d, target: period }, false)?;
-    settle_row(rt, "outputs at", circuit, &Task { k, d, target: below }, false)?;
-    settle_row(rt, "all at", circuit, &Task { k, d, target: period }, true)
+    outputs_row(rt, circuit, &Task { k, d, target: period })?;
+    outputs_row(rt, circuit, &Task { k, d, target: below })?;
+    all_row(rt, circuit, &Task { k, d, target: period })?;
+    all_row(rt, circuit, &Task { k, d, target: below })
 }
 
 fn main(rt: HostRuntime) -> io::Result<()> {
@@ -124,7 +155,7 @@ fn main(rt: HostRuntime) -> io::Result<()> {
             return Ok(());
         };
         println!(&rt; "loop of {gates} gates")?;
-        settle_row(&rt, "all at", &circuit, &Task { k: 4, d: 8, target: period.saturating_sub(1) }, true)?;
+        all_row(&rt, &circuit, &Task { k: 4, d: 8, target: period.saturating_sub(1) })?;
     }
     Ok(())
 }
@@ -252,4 +283,33 @@ pub fn looped(alloc: Global, gates: u32, registers: u32) -> Result<Option<Circui
 END
 cd "$bench"
 rt fmt >/dev/null
-if [ "${1:-}" = try ]; then rt try; else rt run; fi
+if [ "${1:-}" = try ]; then
+    rt try
+    exit
+fi
+rt run | tee "$bench/rows"
+python3 - "$bench/rows" <<'END'
+# Exponents of the times between the smallest and the largest sample.
+import collections
+import math
+import re
+import sys
+
+setting, gates, times = None, 0, collections.defaultdict(list)
+for line in open(sys.argv[1]):
+    head = re.match(r"(\d+) signals (K \d D \d): least period \d+, (\d+) us", line)
+    if head:
+        setting, gates = head[2], int(head[1]) * 4 // 5
+        times[setting, "the search"].append((gates, int(head[3])))
+    elif line.startswith("loop"):
+        break
+    elif setting:
+        what = ("the outputs" if "outputs" in line else "all gates")
+        times[setting, what].append((gates, int(re.search(r"(\d+) us", line)[1])))
+for (setting, what), rows in times.items():
+    sums = collections.defaultdict(int)
+    for gates, time in rows:
+        sums[gates] += time
+    (least, first), *_, (most, last) = sorted(sums.items())
+    print(f"{setting}, {what}: exponent {math.log(last / first) / math.log(most / least):.2f}")
+END

@@ -5,8 +5,9 @@ Run by hand, outside the gate, after the launcher has built the program:
     python3 bench/map.py [RUNS]
 Each figure is the least processor time of RUNS runs (5 unless given). Samples are timed as ratios to `show` on the same text; the
 designs of bench/designs, which Yosys makes into gates, as ratios to ABC's `strash; if -K` on the text that ABC writes of them, so
-that both map the same gates. Without Yosys or ABC the designs are left out. `check` is timed as a ratio to `map` with the
-certificate on the same files. The certificate of a loop is large: `check` of it is timed as a ratio to `wc -w` on it.
+that both map the same gates; their tables stand beside ABC's, and beside those of an earlier program where BEFORE names one. Without
+Yosys or ABC the designs are left out. `check` is timed as a ratio to `map` with the certificate on the same files. The certificate of
+a loop is large: `check` of it is timed as a ratio to `wc -w` on it.
 """
 
 import glob
@@ -156,27 +157,55 @@ def abc_seconds(abc, script, runs):
     return best, told
 
 
-def designs(folder, runs):
-    """Each design at several settings beside ABC: the ratio of times, and the periods."""
+def design_texts(folder):
+    """The designs as texts of gates, each with its name, and ABC; none without Yosys or ABC."""
     yosys, abc = shutil.which("yosys"), shutil.which("berkeley-abc") or shutil.which("yosys-abc")
     if not yosys or not abc:
         print("designs: skipped, they want yosys and berkeley-abc")
-        return
-    rows, texts = [], []
+        return [], abc
+    texts = []
     for source in sorted(glob.glob(os.path.join(TOP, "bench", "designs", "*.v"))):
         top = os.path.splitext(os.path.basename(source))[0]
-        gates, text, out = (os.path.join(folder, f"{top}{end}") for end in (".gates.blif", ".blif", ".out.blif"))
+        gates, text = (os.path.join(folder, f"{top}{end}") for end in (".gates.blif", ".blif"))
         subprocess.run([yosys, "-q", "-p", SYNTHESIS.format(source=source, top=top, text=gates)], check=True)
         subprocess.run([abc, "-c", f"read_blif {gates}; strash; write_blif {text}"], check=True, stdout=subprocess.DEVNULL)
-        texts.append((top, text, DESIGN_SETTINGS))
+        texts.append((top, text))
+    return texts, abc
+
+
+def designs(folder, runs):
+    """Each design at several settings beside ABC: the ratio of times, and the periods."""
+    texts, abc = design_texts(folder)
+    rows, out = [], os.path.join(folder, "out.blif")
+    for top, text in texts:
         for k, d in DESIGN_SETTINGS:
             line, _, _ = measured([PROGRAM, "map", str(k), str(d), text, out])
             took = seconds(["map", str(k), str(d), text, out], runs)
             theirs, told = abc_seconds(abc, f"read_blif {text}; strash; if -K {k}; print_stats; write_blif {out}", runs)
             depth = re.search(r"lev\s*=\s*(\d+)", told)
             rows.append([top, str(k), str(d), line, depth[1] if depth else "?", f"{took / theirs:.2f}"])
-    table(["design", "K", "D", "said", "ABC's levels at D 0", "time as a ratio to ABC's"], rows)
-    certificates(texts, folder, runs)
+    if rows:
+        table(["design", "K", "D", "said", "ABC's levels at D 0", "time as a ratio to ABC's"], rows)
+    certificates([(top, text, DESIGN_SETTINGS) for top, text in texts], folder, runs)
+
+
+def tables(folder):
+    """The tables of each design beside those of ABC's `if` at D 0 on the same text, and beside those of the program BEFORE, if named."""
+    texts, abc = design_texts(folder)
+    before, rows, out = os.environ.get("BEFORE"), [], os.path.join(folder, "out.blif")
+    for top, text in texts:
+        for k, d in SETTINGS:
+            words = ["map", str(k), str(d), text, out]
+            now, took, _ = measured([PROGRAM, *words])
+            past, had_taken, _ = measured([before, *words]) if before else ("", 0, 0)
+            _, told = abc_seconds(abc, f"read_blif {text}; strash; if -K {k}; print_stats", 1)
+            theirs, ours = re.search(r"nd\s*=\s*(\d+)", told)[1], re.search(r"tables (\d+)", now)[1]
+            ratio = f"{int(ours) / int(theirs):.2f}" if d == 0 else ""
+            slower = f"{took / had_taken:.2f}" if had_taken else "?"
+            had = re.search(r"tables (\d+)", past)[1] if past else "?"
+            rows.append([top, str(k), str(d), had, ours, theirs if d == 0 else "", ratio, slower])
+    if rows:
+        table(["design", "K", "D", "tables before", "tables", "ABC's `if`", "ratio", "time as a ratio to before"], rows)
 
 
 def main():
@@ -186,6 +215,7 @@ def main():
         whole_commands(folder, runs)
         large(folder)
         designs(folder, runs)
+        tables(folder)
         loops(folder)
 
 

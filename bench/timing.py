@@ -1,4 +1,4 @@
-"""What the benches share: the proved program, and the least processor time of a run of it."""
+"""What the benches share: the proved program, the least processor time of a run of it, and the texts that it is run on."""
 
 import os
 import resource
@@ -23,6 +23,19 @@ def seconds(words, runs):
         subprocess.run([PROGRAM, *words], check=True, stdout=subprocess.DEVNULL)
         best = min(best, processor_seconds() - begin)
     return best
+
+
+def report(path):
+    """What `show` says of the circuit of a text."""
+    return subprocess.run([PROGRAM, "show", path], check=True, stdout=subprocess.PIPE).stdout
+
+
+def written(folder, name, text):
+    """The path of a new file with this text."""
+    path = os.path.join(folder, name)
+    with open(path, "w") as file:
+        file.write(text)
+    return path
 
 
 def measured(words):

@@ -9,7 +9,7 @@
 # A program crate is made in a temporary repository beside copies of the crates that it stands on.
 set -eu
 . "$(dirname "$0")/repository.sh"
-repository tm_bits tm_circuit tm_twins
+repository tm_bits tm_circuit tm_parts tm_twins
 program_crate twin_times tm_bits tm_circuit tm_twins
 naming_module
 

@@ -42,7 +42,7 @@ yosys -q -p "read_verilog bench/designs/rotation.v; synth -flatten -top rotation
 expect "names by autoname" "$folder/long.blif: line N: LongName" "$("$program" map 4 2 "$folder/long.blif" "$folder/none.blif" | sed 's/line [0-9]*/line N/')"
 expect "a rotation" "gates 2202, period 49 with a table for each
 period 16 at D = 0
-period 11 at D = 2, tables 970, registers 287
+period 11 at D = 2, tables 963, registers 286
 turbomap check: accepted period 11 drops 2221
 equivalence: shown by ABC" "$(flows/verilog_to_tables.sh bench/designs/rotation.v rotation 4 2 "$folder/tables.v" "$folder/kept")"
 
