@@ -10,11 +10,7 @@
 #
 # Skips where the program isn't built.
 set -eu
-here=$(cd "$(dirname "$0")" && pwd)
-if [ ! -x "$here/../crates/turbomap/out/turbomap" ]; then
-    echo "models: skipped, the program isn't built"
-    exit 0
-fi
+. "$(dirname "$0")/program.sh"
 
 PYTHONPATH=$here PYTHONDONTWRITEBYTECODE=1 python3 - "$@" <<'END_OF_PROGRAM'
 import os
