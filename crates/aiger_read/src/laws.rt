@@ -12,9 +12,12 @@ ghost use Rattle.aiger_read.specs.Trace.{MeansText};
 
 /// For given limits a text has at most one circuit, at most one first fault, and never both.
 pub fn one_answer()
-    ensures one_circuit { (limits : Limits) (text : List ℕ) (c d : Plain) → IsCircuitOf limits text c → IsCircuitOf limits text d → c ≡ d }
-    ensures one_fault { (limits : Limits) (text : List ℕ) (f g : Faulty) → IsFaultOf limits text f → IsFaultOf limits text g → f ≡ g }
-    ensures not_both { (limits : Limits) (text : List ℕ) (c : Plain) (f : Faulty) → IsFaultOf limits text f → ¬ IsCircuitOf limits text c }
+    ensures one_circuit { (limits : Limits) (text : List ℕ) (c d : Plain)
+        → IsCircuitOf limits text c → IsCircuitOf limits text d → c ≡ d }
+    ensures one_fault { (limits : Limits) (text : List ℕ) (f g : Faulty)
+        → IsFaultOf limits text f → IsFaultOf limits text g → f ≡ g }
+    ensures not_both { (limits : Limits) (text : List ℕ) (c : Plain) (f : Faulty)
+        → IsFaultOf limits text f → ¬ IsCircuitOf limits text c }
 {}
 
 /// The names of a text's circuit keep the limit on names, where it leaves room for the names that are made.

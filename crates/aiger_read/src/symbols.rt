@@ -80,7 +80,8 @@ fn name_on<'a>(
     requires { length names.old.items ≡ slot_count header.now }
     ensures sized { length names.new.items ≡ length names.old.items }
     ensures lawful { OnOk result (fault_in_symbol header.now (maybe_texts names.old.items) text.now ≡ None) }
-    ensures names { OnOk result (maybe_texts names.new.items ≡ with_symbol (maybe_texts names.old.items) (symbol_in header.now text.now)) }
+    ensures names { OnOk result (maybe_texts names.new.items
+        ≡ with_symbol (maybe_texts names.old.items) (symbol_in header.now text.now)) }
     ensures fault { IfErr result (λ e. IsFaultOn e line (fault_in_symbol header.now (maybe_texts names.old.items) text.now)) }
 {
     if text.is_empty() {

@@ -183,7 +183,8 @@ fn gates_of(alloc: Global, body: &[Stated], signals: &Names) -> Result<Vec<GateP
 fn outputs_of(alloc: Global, body: &[Stated], signals: &Names) -> Result<Vec<Signal>, NoMemory>
     requires few { length signals.now ≤ 900000 }
     requires known { AreKnown signals.now (over outputs_told (map telling_of body.now)) }
-    ensures { IfOk result (λ outputs. map (slice_get signals.now) outputs.items ≡ map Some (over outputs_told (map telling_of body.now))) }
+    ensures { IfOk result (λ outputs. map (slice_get signals.now) outputs.items
+        ≡ map Some (over outputs_told (map telling_of body.now))) }
 {
     let mut outputs = Vec::new(alloc);
     for stated in body {

@@ -19,7 +19,8 @@ fn is_undriven(signals: &Names, clock: Option<&Name>, name: &Name) -> bool
 /// Whether the statement uses a name that nothing drives.
 fn uses_undriven(signals: &Names, clock: Option<&Name>, what: &Statement) -> bool
     ensures { result
-        ≡ list_any (λ n. not (list_any (bytes_eq n) signals.now || is_named (option_copied clock.entry) n)) (uses_told (told_of what.now)) }
+        ≡ list_any (λ n. not (list_any (bytes_eq n) signals.now || is_named (option_copied clock.entry) n))
+        (uses_told (told_of what.now)) }
 {
     match what {
         Statement::Gate { pins, .. } => pins.iter().any(|pin| is_undriven(signals, clock, pin)),
@@ -92,7 +93,8 @@ fn first_gated(body: &[Stated], clock: Option<&Name>) -> Option<u32>
 /// The least line of a statement that uses the clock.
 fn least_using(body: &[Stated], clock: Option<&Name>) -> Option<u32>
     ensures { result
-        ≡ least (map (λ s. s.line) (filter (λ s. list_any (is_named (option_copied clock.entry)) (uses_told (told_of s.what))) body.now)) }
+        ≡ least (map (λ s. s.line)
+        (filter (λ s. list_any (is_named (option_copied clock.entry)) (uses_told (told_of s.what))) body.now)) }
 {
     let mut found = None;
     for stated in body {

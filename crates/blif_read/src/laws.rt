@@ -19,9 +19,12 @@ pub fn limits_hold()
 
 /// For given limits a text has exactly one circuit or exactly one first fault, and never both.
 pub fn one_answer()
-    ensures one_circuit { (limits : Limits) (text : List ℕ) (c d : Plain) → IsCircuitOf limits text c → IsCircuitOf limits text d → c ≡ d }
-    ensures one_fault { (limits : Limits) (text : List ℕ) (f g : Faulty) → IsFaultOf limits text f → IsFaultOf limits text g → f ≡ g }
-    ensures not_both { (limits : Limits) (text : List ℕ) (c : Plain) (f : Faulty) → IsFaultOf limits text f → ¬ IsCircuitOf limits text c }
+    ensures one_circuit { (limits : Limits) (text : List ℕ) (c d : Plain)
+        → IsCircuitOf limits text c → IsCircuitOf limits text d → c ≡ d }
+    ensures one_fault { (limits : Limits) (text : List ℕ) (f g : Faulty)
+        → IsFaultOf limits text f → IsFaultOf limits text g → f ≡ g }
+    ensures not_both { (limits : Limits) (text : List ℕ) (c : Plain) (f : Faulty)
+        → IsFaultOf limits text f → ¬ IsCircuitOf limits text c }
     ensures one_of_both { (limits : Limits) (text : List ℕ)
         → ((c : Plain) × IsCircuitOf limits text c) ⊎ ((f : Faulty) × IsFaultOf limits text f) }
 {}
@@ -48,7 +51,8 @@ pub fn one_answer_of_unit()
     ensures one_circuit { (limits : Limits) (m : Model) (c d : Plain)
         → IsCircuitOfUnit limits m c → IsCircuitOfUnit limits m d → c ≡ d }
     ensures one_fault { (limits : Limits) (m : Model) (f g : Faulty) → IsFaultOfUnit limits m f → IsFaultOfUnit limits m g → f ≡ g }
-    ensures not_both { (limits : Limits) (m : Model) (f : Faulty) (c : Plain) → IsFaultOfUnit limits m f → ¬ IsCircuitOfUnit limits m c }
+    ensures not_both { (limits : Limits) (m : Model) (f : Faulty) (c : Plain)
+        → IsFaultOfUnit limits m f → ¬ IsCircuitOfUnit limits m c }
     ensures one_of_both { (limits : Limits) (m : Model)
         → ((c : Plain) × IsCircuitOfUnit limits m c) ⊎ ((f : Faulty) × IsFaultOfUnit limits m f) }
 {}

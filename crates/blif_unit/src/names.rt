@@ -35,7 +35,8 @@ impl<'a> Names<'a> {
     /// Puts a name last, and answers whether it is new. A name that is there already stays where it is.
     pub fn insert(&mut self, name: &'a [u8]) -> Result<bool, NoMemory>
         ensures added { IfOk result (λ added. added ≡ not (list_any (bytes_eq name.now) self.old)) }
-        ensures names { OnOk result (self.new ≡ (if list_any (bytes_eq name.now) self.old then self.old else self.old ++ name.now ∷ [])) }
+        ensures names { OnOk result (self.new ≡ (if list_any (bytes_eq name.now) self.old then self.old
+            else self.old ++ name.now ∷ [])) }
     {
         Ok(self.set.insert(name)?)
     }

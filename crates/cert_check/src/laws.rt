@@ -40,7 +40,8 @@ pub fn accepted_is_short()
 /// An accepted certificate for a source that can be mapped has a text.
 pub fn accepted_is_spelled()
     ensures { (source mapped : Plain) (cert : Certificate) (k d : ℕ) → IsSound source → length source.drives ≤ most_signals_to_map
-        → widest source.drives ≤ k → 1 ≤ k → k ≤ most_inputs → d ≤ 8 → IsAccepted source mapped cert k d → HasSpelling cert }
+        → widest source.drives ≤ k → 1 ≤ k → k ≤ most_inputs → d ≤ 8
+        → IsAccepted source mapped cert k d → HasSpelling cert }
 {}
 
 /// A mapping that is lawful for the joined circuit, of a period at most this, its mapped circuit and drops that show that no smaller

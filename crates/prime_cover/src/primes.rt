@@ -62,7 +62,8 @@ fn needed_of(alloc: Global, cubes: &[Cube]) -> Result<Vec<Cube>, NoMemory>
     requires sorted { IsNonDecreasingBy (λ cube. cube.order) cubes.now }
     requires width { HaveOneWidth cubes.now }
     ensures kept { IfOk result (λ needed. All (Contains cubes.now) needed.items) }
-    ensures rows { IfOk result (λ needed. (row : ℕ) → list_any (has row) cubes.now ≡ true → list_any (has row) needed.items ≡ true) }
+    ensures rows { IfOk result (λ needed. (row : ℕ) → list_any (has row) cubes.now ≡ true
+        → list_any (has row) needed.items ≡ true) }
     ensures own { IfOk result (λ needed. All (HasOwnRow needed.items) needed.items) }
     ensures ascend { IfOk result (λ needed. Ascend needed.items) }
 {

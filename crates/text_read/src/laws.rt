@@ -9,9 +9,12 @@ ghost use Rattle.text_read.specs.Texts.{Faulty, IsCircuitOf, IsFaultOf};
 
 /// For given limits a text has at most one circuit, at most one first fault, and never both.
 pub fn one_answer()
-    ensures one_circuit { (limits : Limits) (text : List ℕ) (c d : Plain) → IsCircuitOf limits text c → IsCircuitOf limits text d → c ≡ d }
-    ensures one_fault { (limits : Limits) (text : List ℕ) (f g : Faulty) → IsFaultOf limits text f → IsFaultOf limits text g → f ≡ g }
-    ensures not_both { (limits : Limits) (text : List ℕ) (c : Plain) (f : Faulty) → IsFaultOf limits text f → ¬ IsCircuitOf limits text c }
+    ensures one_circuit { (limits : Limits) (text : List ℕ) (c d : Plain)
+        → IsCircuitOf limits text c → IsCircuitOf limits text d → c ≡ d }
+    ensures one_fault { (limits : Limits) (text : List ℕ) (f g : Faulty)
+        → IsFaultOf limits text f → IsFaultOf limits text g → f ≡ g }
+    ensures not_both { (limits : Limits) (text : List ℕ) (c : Plain) (f : Faulty)
+        → IsFaultOf limits text f → ¬ IsCircuitOf limits text c }
 {
     aiger_read::laws::one_answer();
     blif_hier::laws::one_answer();

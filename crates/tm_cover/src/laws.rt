@@ -26,5 +26,6 @@ pub fn chosen_is_within()
 /// Where no output has lost its label, some lawful mapping has no chain longer than the target.
 pub fn settled_has_mapping()
     ensures { (base : ℕ) (need : ℕ → ℕ) (c : Plain) (k d : ℕ) (s : Settling) → IsSound c → IsSettledForOutputs base c k d s
-        → ¬ HaveLost need c s.labels → (tables : List Table) × IsLawfulFrom base need c k d tables × HasChainsWithin tables s.target }
+        → ¬ HaveLost need c s.labels
+        → (tables : List Table) × IsLawfulFrom base need c k d tables × HasChainsWithin tables s.target }
 {}

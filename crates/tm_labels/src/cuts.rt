@@ -37,7 +37,8 @@ impl<'a> Model for Cuts<'a> {
 
     ghost view = { λ a. record { circuit = a.circuit.now; leaves = map (λ cut. cut.items) a.leaves.items; stale = a.stale.items } };
 
-    ghost invariant = { λ a. KeepsCuts a.circuit.now.drives (map (λ cut. cut.items) a.leaves.items) a.stale.items a.versions.items (map (λ list. list.items) a.watchers.items) };
+    ghost invariant = { λ a. KeepsCuts a.circuit.now.drives (map (λ cut. cut.items) a.leaves.items) a.stale.items
+        a.versions.items (map (λ list. list.items) a.watchers.items) };
 }
 
 impl<'a> Cuts<'a> {

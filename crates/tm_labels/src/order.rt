@@ -125,7 +125,8 @@ impl Order {
     /// The first gate of the order that waits.
     pub fn first(&mut self, queued: &[bool]) -> Option<Signal>
         ensures waits { IfSome result (λ gate. is_marked queued.now gate ≡ true) }
-        ensures keeps { (g : ℕ) → is_marked queued.now g ≡ true → Contains (places_in self.old) g → Contains (places_in self.new) g }
+        ensures keeps { (g : ℕ) → is_marked queued.now g ≡ true → Contains (places_in self.old) g
+            → Contains (places_in self.new) g }
         ensures ways { KeepsWays self.old self.new }
     {
         if is_marked(queued, Signal(self.ahead)) {

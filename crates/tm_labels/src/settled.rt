@@ -30,7 +30,12 @@ impl Model for Settled {
 
     ghost Value = { Settling };
 
-    ghost view = { λ s. record { target = s.target; labels = s.labels.items; drops = map drop_of s.drops.items; cuts = map (λ cut. cut.items) s.cuts.items } };
+    ghost view = { λ s. record {
+      target = s.target;
+      labels = s.labels.items;
+      drops = map drop_of s.drops.items;
+      cuts = map (λ cut. cut.items) s.cuts.items;
+    } };
 }
 
 impl Settled {

@@ -129,11 +129,13 @@ impl LazyNet for ServedFrom<'_> {
 
     ghost shape = { λ n. served n.base n.served.circuit.now n.served.labels.now n.served.within };
 
-    ghost rank_falls = { λ n x i h. (served_keeps n.base n.served.circuit.now n.served.labels.now n.served.within n.served.sound).falls x i h };
+    ghost rank_falls = { λ n x i h.
+        (served_keeps n.base n.served.circuit.now n.served.labels.now n.served.within n.served.sound).falls x i h };
 
     ghost rank_below = { λ n x. (served_keeps n.base n.served.circuit.now n.served.labels.now n.served.within n.served.sound).below x };
 
-    ghost end_reads_nothing = { λ n x h. (served_keeps n.base n.served.circuit.now n.served.labels.now n.served.within n.served.sound).stops x h };
+    ghost end_reads_nothing = { λ n x h.
+        (served_keeps n.base n.served.circuit.now n.served.labels.now n.served.within n.served.sound).stops x h };
 
     ghost same_if_equal = { λ x y h. (node_decides x y).0 h };
 
