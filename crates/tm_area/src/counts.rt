@@ -19,15 +19,8 @@ pub(crate) struct Counts {
     used: Vec<bool>,
     /// Tables that have still to be counted as read.
     waiting: Vec<Signal>,
-    /// What was counted last, by which it can be taken back.
-    trail: Vec<Reading>,
-}
-
-/// A table that was counted as read, and whether it came into use.
-#[derive(Clone, Copy)]
-struct Reading {
-    gate: Signal,
-    came: bool,
+    /// Tables that a trial brought into use.
+    trail: Vec<Signal>,
 }
 
 /// The leaves of the cut that is chosen for a gate.
@@ -73,12 +66,10 @@ impl Counts {
     ) -> Result<(), NoMemory> {
         self.clear();
         self.waiting.clear();
-        self.trail.clear();
         for output in circuit.outputs() {
             self.wait_for(*output)?;
         }
-        self.count(choices, usize::MAX)?;
-        Ok(())
+        self.count(choices)
     }
 
     /// Counts no table as read.
@@ -96,39 +87,28 @@ impl Counts {
         }
     }
 
-    /// Brings the readings at some leaves in, and all that come into use by them: the number of tables that do. `None` says that
-    /// they are more than may be gone through, and not all were counted.
+    /// Brings the readings at some leaves in, and all that come into use by them.
     pub fn bring_in(
         &mut self,
         choices: &[SmallVec<Node, 8>],
         leaves: &[Node],
-        most: usize,
-    ) -> Result<Option<u32>, NoMemory> {
+    ) -> Result<(), NoMemory> {
         self.waiting.clear();
-        self.trail.clear();
         self.wait_for_all(leaves)?;
-        self.count(choices, most)
+        self.count(choices)
     }
 
     /// Counts the tables that wait, and those that wait for them in turn.
-    fn count(
-        &mut self,
-        choices: &[SmallVec<Node, 8>],
-        most: usize,
-    ) -> Result<Option<u32>, NoMemory> {
-        let mut tables = 0u32;
-        for _ in 0..most {
+    fn count(&mut self, choices: &[SmallVec<Node, 8>]) -> Result<(), NoMemory> {
+        for _ in 0..usize::MAX {
             let Some(gate) = self.waiting.pop() else {
-                return Ok(Some(tables));
+                return Ok(());
             };
-            let came = self.add_reading(gate);
-            self.trail.push(Reading { gate, came })?;
-            if came {
-                tables = tables.saturating_add(1);
+            if self.add_reading(gate) {
                 self.wait_for_all(leaves_in(choices, gate))?;
             }
         }
-        Ok(None)
+        Ok(())
     }
 
     /// Counts one reading of a table, and tells whether the table came into use.
@@ -143,26 +123,68 @@ impl Counts {
         true
     }
 
-    /// The number of tables that some leaves would bring into use, where few enough are gone through for it, and else the greatest.
+    /// The number of tables that some leaves would bring into use, where it is at most so many and few enough readings are gone
+    /// through for it, and else the greatest.
     pub fn area_of(
         &mut self,
         choices: &[SmallVec<Node, 8>],
         leaves: &[Node],
+        most: u32,
     ) -> Result<u32, NoMemory> {
-        let tables = self.bring_in(choices, leaves, MOST_TRIED)?;
+        let area = self.try_out(choices, leaves, most)?;
         self.take_back();
-        Ok(tables.unwrap_or(u32::MAX))
+        Ok(area.unwrap_or(u32::MAX))
     }
 
-    /// Takes back what was counted last.
-    fn take_back(&mut self) {
-        for _ in 0..usize::MAX {
-            let Some(reading) = self.trail.pop() else {
-                return;
+    /// Brings the tables that some leaves read into use, and those that they read in turn, but counts no reading. `None` says that
+    /// they are too many, and not all came.
+    fn try_out(
+        &mut self,
+        choices: &[SmallVec<Node, 8>],
+        leaves: &[Node],
+        most: u32,
+    ) -> Result<Option<u32>, NoMemory> {
+        self.trail.clear();
+        let mut readings = self.try_all(leaves)?;
+        for place in 0..MOST_TRIED {
+            let tables = self.trail.len() as u32;
+            if readings >= MOST_TRIED || tables > most {
+                return Ok(None);
+            }
+            let Some(gate) = self.trail.get(place).copied() else {
+                return Ok(Some(tables));
             };
-            self.remove_reading(reading.gate);
-            if reading.came {
-                self.set_used(reading.gate, false);
+            readings = readings.saturating_add(self.try_all(leaves_in(choices, gate))?);
+        }
+        Ok(None)
+    }
+
+    /// Brings the tables that are read at some leaves into use, and gives the number of readings.
+    fn try_all(&mut self, leaves: &[Node]) -> Result<usize, NoMemory> {
+        let mut readings = 0usize;
+        for leaf in leaves {
+            if let Some(gate) = self.source_of(leaf.signal) {
+                readings = readings.saturating_add(1);
+                self.try_table(gate)?;
+            }
+        }
+        Ok(readings)
+    }
+
+    /// Brings a table into use, unless it is.
+    fn try_table(&mut self, gate: Signal) -> Result<(), NoMemory> {
+        if !self.is_used(gate.0 as usize) {
+            self.set_used(gate, true);
+            self.trail.push(gate)?;
+        }
+        Ok(())
+    }
+
+    /// Takes the tables that a trial brought into use out of it.
+    fn take_back(&mut self) {
+        for place in 0..self.trail.len() {
+            if let Some(gate) = self.trail.get(place).copied() {
+                self.set_used(gate, false);
             }
         }
     }
@@ -215,10 +237,15 @@ impl Counts {
 
     /// Makes the table that is read at a signal wait, where there is one.
     fn wait_for(&mut self, signal: Signal) -> Result<(), NoMemory> {
-        if let Some(gate) = self.sources.get(signal.0 as usize).copied().flatten() {
+        if let Some(gate) = self.source_of(signal) {
             self.waiting.push(gate)?;
         }
         Ok(())
+    }
+
+    /// The gate whose table is read at a leaf with this signal.
+    fn source_of(&self, signal: Signal) -> Option<Signal> {
+        self.sources.get(signal.0 as usize).copied().flatten()
     }
 }
 

@@ -56,15 +56,53 @@ impl Weight {
 /// A cut of a node: its leaves in ascending order, a sign of them (`sign_of`), and their weight.
 #[derive(Drop)]
 pub(crate) struct Cut {
-    pub leaves: SmallVec<Node, 8>,
+    leaves: SmallVec<Node, 8>,
+    sign: u64,
+    weight: Weight,
+}
+
+impl Cut {
+    /// A cut that is copied from where it stands.
+    pub fn new(alloc: Global, cut: CutRef<'_>) -> Result<Cut, NoMemory> {
+        Ok(Cut {
+            leaves: SmallVec::from_slice(alloc, cut.leaves)?,
+            sign: cut.sign,
+            weight: cut.weight,
+        })
+    }
+
+    /// The cut without its memory.
+    pub fn by_ref(&self) -> CutRef<'_> {
+        CutRef {
+            leaves: self.leaves.as_slice(),
+            sign: self.sign,
+            weight: self.weight,
+        }
+    }
+}
+
+/// A cut whose leaves stand elsewhere.
+#[derive(Clone, Copy)]
+pub(crate) struct CutRef<'a> {
+    pub leaves: &'a [Node],
     pub sign: u64,
     pub weight: Weight,
 }
 
-impl Cut {
+impl CutRef<'_> {
     /// Whether all leaves of this cut are leaves of another one, which is then of no use beside it.
-    fn is_within(&self, other: &Cut) -> bool {
-        self.sign & !other.sign == 0 && are_among(self.leaves.as_slice(), other.leaves.as_slice())
+    fn is_within(self, other: CutRef<'_>) -> bool {
+        self.sign & !other.sign == 0 && are_among(self.leaves, other.leaves)
+    }
+
+    /// Whether this cut surely has more than `k` leaves together with another one.
+    pub fn is_too_large_with(self, k: u8, other: CutRef<'_>) -> bool {
+        (self.sign | other.sign).count_ones() > u32::from(k)
+    }
+
+    /// Whether this cut surely has no leaf in common with another one.
+    pub fn is_apart_from(self, other: CutRef<'_>) -> bool {
+        self.sign & other.sign == 0
     }
 }
 
@@ -97,25 +135,24 @@ fn is_among(node: Node, others: &[Node]) -> bool {
     false
 }
 
-/// The leaves of two cuts together, unless they are more than `k`.
-pub(crate) fn merged(
-    alloc: Global,
+/// Puts the leaves of two cuts together, and tells whether they are at most `k`.
+pub(crate) fn merge(
+    nodes: &mut Vec<Node>,
     k: u8,
     left: &[Node],
     right: &[Node],
-) -> Result<Option<SmallVec<Node, 8>>, NoMemory> {
-    let mut nodes = SmallVec::new(alloc);
-    let mut i = 0usize;
-    let mut j = 0usize;
+) -> Result<bool, NoMemory> {
+    nodes.clear();
+    let (mut i, mut j) = (0usize, 0usize);
     for _ in 0..=k {
         let Some(node) = lesser(left.get(i), right.get(j)) else {
-            return Ok(Some(nodes));
+            return Ok(true);
         };
-        i = past(left, i, &node);
-        j = past(right, j, &node);
+        i = past(left, i, node);
+        j = past(right, j, node);
         nodes.push(node)?;
     }
-    Ok(None)
+    Ok(false)
 }
 
 /// The lesser of two nodes, where there is one.
@@ -130,38 +167,39 @@ fn lesser(left: Option<&Node>, right: Option<&Node>) -> Option<Node> {
 }
 
 /// The place after this one, where the node at it is the one that was taken.
-fn past(nodes: &[Node], place: usize, taken: &Node) -> usize {
+fn past(nodes: &[Node], place: usize, taken: Node) -> usize {
     match nodes.get(place) {
-        Some(node) if *node == *taken => place.saturating_add(1),
+        Some(node) if *node == taken => place.saturating_add(1),
         _ => place,
     }
 }
 
-/// Takes a cut among so many that are kept, which stand in order, unless a part of it is there or others are better; those of which
-/// it is a part go.
+/// Takes a copy of a cut among so many that are kept, which stand in order, unless a part of it is there or others are better; those
+/// of which it is a part go.
 pub(crate) fn offer(
+    alloc: Global,
     cuts: &mut Vec<Cut>,
-    cut: Cut,
+    cut: CutRef<'_>,
     early: bool,
     most: usize,
 ) -> Result<(), NoMemory> {
-    let Some(place) = place_for(cuts, &cut, early, most) else {
+    let Some(place) = place_for(cuts, cut, early, most) else {
         return Ok(());
     };
-    remove_wider(cuts, &cut, place);
+    remove_wider(cuts, cut, place);
     let place = place.min(cuts.len());
-    cuts.insert(place, cut)?;
+    cuts.insert(place, Cut::new(alloc, cut)?)?;
     cuts.truncate(most);
     Ok(())
 }
 
 /// The place at which a cut belongs among so many that are kept. What is a part of it comes before it.
-fn place_for(cuts: &[Cut], cut: &Cut, early: bool, most: usize) -> Option<usize> {
+fn place_for(cuts: &[Cut], cut: CutRef<'_>, early: bool, most: usize) -> Option<usize> {
     for (place, other) in cuts.iter().enumerate() {
         if cut.weight.is_before(other.weight, early) {
             return Some(place);
         }
-        if other.is_within(cut) {
+        if other.by_ref().is_within(cut) {
             return None;
         }
     }
@@ -173,13 +211,13 @@ fn place_for(cuts: &[Cut], cut: &Cut, early: bool, most: usize) -> Option<usize>
 }
 
 /// Removes the cuts from a place on of which a cut is a part.
-fn remove_wider(cuts: &mut Vec<Cut>, cut: &Cut, place: usize) {
+fn remove_wider(cuts: &mut Vec<Cut>, cut: CutRef<'_>, place: usize) {
     let mut place = place;
     for _ in place..cuts.len() {
         if place >= cuts.len() {
             return;
         }
-        if cut.is_within(&cuts[place]) {
+        if cut.is_within(cuts[place].by_ref()) {
             cuts.remove(place);
         } else {
             place += 1;

@@ -1,6 +1,6 @@
 // Cuts that are kept of nodes. They stand behind one another in one list, so that a node costs no allocation of its own.
 
-use crate::cuts::{Cut, Weight, sign_of};
+use crate::cuts::{Cut, CutRef, Weight, sign_of};
 use std::alloc::Global;
 use tm_bits::NoMemory;
 use tm_circuit::{Circuit, Driver, Signal};
@@ -16,13 +16,12 @@ struct Span {
 /// The span of what has nothing.
 const NOTHING: Span = Span { from: 0, to: 0 };
 
-/// A cut that is kept: where its leaves stand, a sign of their signals, by which two cuts are seen to be too large together, and the
-/// weight that they had.
+/// A cut that is kept: where its leaves stand, their sign, and the weight that they had.
 #[derive(Clone, Copy)]
 pub(crate) struct Kept {
     leaves: Span,
-    pub sign: u64,
-    pub weight: Weight,
+    sign: u64,
+    weight: Weight,
 }
 
 /// Cuts of nodes by their signals. In one for all nodes of an advance they are what may stand for a node among the leaves of a cut: the
@@ -33,13 +32,6 @@ pub(crate) struct Level {
     cuts: Vec<Kept>,
     /// The cuts of each signal's node.
     spans: Vec<Span>,
-}
-
-impl Kept {
-    /// Whether this cut and one with a sign surely have more than `k` leaves together.
-    pub fn is_too_large(&self, k: u8, sign: u64) -> bool {
-        (self.sign | sign).count_ones() > u32::from(k)
-    }
 }
 
 impl Level {
@@ -106,7 +98,11 @@ impl Level {
     /// Adds the cut of a node itself.
     fn add_itself(&mut self, signal: Signal, advance: u8, weight: Weight) -> Result<(), NoMemory> {
         let itself = [Node { signal, advance }];
-        self.add_cut(&itself, sign_of(&itself), weight)
+        self.add_cut(CutRef {
+            leaves: &itself,
+            sign: sign_of(&itself),
+            weight,
+        })
     }
 
     /// Gives a gate's node its cuts: itself with a weight, where it may be a leaf, and some that were found.
@@ -122,7 +118,7 @@ impl Level {
             self.add_itself(gate, advance, weight)?;
         }
         for cut in cuts {
-            self.add_cut(cut.leaves.as_slice(), cut.sign, cut.weight)?;
+            self.add_cut(cut.by_ref())?;
         }
         self.close(gate, from);
         Ok(())
@@ -130,21 +126,21 @@ impl Level {
 
     /// Adds all cuts that a signal's node has in another level.
     fn add_all_of(&mut self, other: &Level, signal: Signal) -> Result<(), NoMemory> {
-        for cut in other.cuts_of(signal) {
-            self.add_cut(other.leaves_of(cut), cut.sign, cut.weight)?;
+        for kept in other.cuts_of(signal) {
+            self.add_cut(other.cut(kept))?;
         }
         Ok(())
     }
 
-    /// Adds a cut with its sign.
-    fn add_cut(&mut self, leaves: &[Node], sign: u64, weight: Weight) -> Result<(), NoMemory> {
+    /// Adds a copy of a cut.
+    fn add_cut(&mut self, cut: CutRef<'_>) -> Result<(), NoMemory> {
         let from = self.leaves.len();
-        self.leaves.extend_from_slice(leaves)?;
+        self.leaves.extend_from_slice(cut.leaves)?;
         let to = self.leaves.len();
         self.cuts.push(Kept {
             leaves: Span { from, to },
-            sign,
-            weight,
+            sign: cut.sign,
+            weight: cut.weight,
         })?;
         Ok(())
     }
@@ -167,32 +163,17 @@ impl Level {
         }
     }
 
-    /// The places of the cuts of a signal's node among all.
-    pub fn places(&self, signal: Signal) -> (usize, usize) {
-        match self.spans.get(signal.0 as usize) {
-            Some(span) => (span.from, span.to),
-            None => (0, 0),
+    /// A cut that is kept here.
+    pub fn cut(&self, kept: &Kept) -> CutRef<'_> {
+        CutRef {
+            leaves: self.leaves_in(kept.leaves),
+            sign: kept.sign,
+            weight: kept.weight,
         }
     }
 
-    /// The leaves of the cut at a place.
-    pub fn leaves_at(&self, place: usize) -> &[Node] {
-        match self.cuts.get(place) {
-            Some(cut) => self.leaves_of(cut),
-            None => &[],
-        }
-    }
-
-    /// Sets the weight of the cut at a place.
-    pub fn set_weight(&mut self, place: usize, weight: Weight) {
-        if let Some(cut) = self.cuts.get_mut(place) {
-            cut.weight = weight;
-        }
-    }
-
-    /// The leaves of a cut.
-    pub fn leaves_of(&self, cut: &Kept) -> &[Node] {
-        let span = cut.leaves;
+    /// The leaves in a stretch.
+    fn leaves_in(&self, span: Span) -> &[Node] {
         if span.from <= span.to && span.to <= self.leaves.len() {
             &self.leaves[span.from..span.to]
         } else {

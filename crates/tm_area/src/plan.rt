@@ -3,8 +3,8 @@
 ghost use Rattle.std.specs.Prelude.{◌≡◌, ◌<◌, length};
 
 use crate::counts::{Counts, leaves_in};
-use crate::cuts::Weight;
-use crate::level::{Kept, Level};
+use crate::cuts::{CutRef, Weight};
+use crate::level::Level;
 use smallvec::SmallVec;
 use std::alloc::Global;
 use tm_bits::NoMemory;
@@ -136,11 +136,12 @@ impl Plan {
     pub fn weigh(&self, leaves: &[Node]) -> Weight {
         let (mut arrival, mut flow) = (0u32, 0u64);
         for leaf in leaves {
-            let fact = self.fact(leaf.signal);
-            if fact.labelled && fact.lag == leaf.advance {
-                arrival = arrival.max(fact.arrival);
+            if let Some(fact) = self.facts.get(leaf.signal.0 as usize) {
+                if fact.labelled && fact.lag == leaf.advance {
+                    arrival = arrival.max(fact.arrival);
+                }
+                flow = flow.saturating_add(fact.share);
             }
-            flow = flow.saturating_add(fact.share);
         }
         Weight {
             arrival,
@@ -154,16 +155,16 @@ impl Plan {
         self.weigh(leaves_in(&self.choices, gate))
     }
 
-    /// Chooses a kept cut for a gate, or none in place of its own, and notes what it gives the table.
+    /// Chooses a cut for a gate, or none in place of its own, and notes what it gives the table.
     pub fn choose(
         &mut self,
         alloc: Global,
         gate: Signal,
-        cut: Option<Kept>,
+        cut: Option<CutRef<'_>>,
         weight: Weight,
     ) -> Result<(), NoMemory> {
         if let Some(cut) = cut {
-            let leaves = SmallVec::from_slice(alloc, self.kept.leaves_of(&cut))?;
+            let leaves = SmallVec::from_slice(alloc, cut.leaves)?;
             if let Some(choice) = self.choices.get_mut(gate.0 as usize) {
                 *choice = leaves;
             }
@@ -178,15 +179,6 @@ impl Plan {
             fact.arrival = weight.arrival.saturating_add(1);
             fact.share = weight.flow.saturating_add(TABLE).saturating_mul(READER)
                 / fact.readers.max(READER);
-        }
-    }
-
-    /// Weighs the kept cuts of a gate anew.
-    pub fn weigh_again(&mut self, gate: Signal) {
-        let (from, to) = self.kept.places(gate);
-        for place in from..to {
-            let weight = self.weigh(self.kept.leaves_at(place));
-            self.kept.set_weight(place, weight);
         }
     }
 

@@ -3,11 +3,11 @@
 ghost use Rattle.std.specs.Prelude.{◌≡◌, length};
 
 use crate::counts::{MOST_TRIED, leaves_in};
-use crate::cuts::{Cut, Weight, merged, offer};
-use crate::level::{Kept, Level};
+use crate::cuts::{Cut, CutRef, Weight, merge, offer};
+use crate::level::Level;
 use crate::plan::{Fact, Plan};
-use smallvec::SmallVec;
 use std::alloc::Global;
+use std::mem;
 use tm_bits::NoMemory;
 use tm_circuit::{Circuit, Driver, Signal};
 use tm_labels::Settled;
@@ -29,7 +29,9 @@ enum Aim {
 enum Offers {
     /// Cuts that are put together of those of the pins.
     Anew,
-    /// Those that the last such round kept, which costs a tenth.
+    /// The same, which are kept for the rounds to come.
+    AnewAndKept,
+    /// Those that were kept, which costs a tenth.
     Again,
 }
 
@@ -37,7 +39,7 @@ enum Offers {
 const ROUNDS: [(Aim, Offers); 5] = [
     (Aim::Early, Offers::Anew),
     (Aim::Flow, Offers::Anew),
-    (Aim::Exact, Offers::Anew),
+    (Aim::Exact, Offers::AnewAndKept),
     (Aim::Flow, Offers::Again),
     (Aim::Exact, Offers::Again),
 ];
@@ -49,7 +51,7 @@ const MANY_NODES: u32 = 5_000;
 /// The rounds over more nodes.
 const FEW_ROUNDS: [(Aim, Offers); 3] = [
     (Aim::Early, Offers::Anew),
-    (Aim::Flow, Offers::Anew),
+    (Aim::Flow, Offers::AnewAndKept),
     (Aim::Exact, Offers::Again),
 ];
 
@@ -81,18 +83,17 @@ pub(crate) fn lighter(
     } else {
         (&ROUNDS, MOST_CUTS)
     };
+    let mut memory = Memory::new(alloc);
     for (aim, offers) in rounds {
         let round = Round {
             alloc,
             circuit,
             k,
             aim: *aim,
+            offers: *offers,
             most,
         };
-        match offers {
-            Offers::Anew => round.run(&mut plan)?,
-            Offers::Again => round.run_again(&mut plan)?,
-        }
+        round.run(&mut plan, &mut memory)?;
         plan.renew(circuit)?;
     }
     plan.mapping(alloc, circuit)
@@ -105,12 +106,31 @@ struct Wanted {
     most: usize,
 }
 
-/// A cut of some pins, which is to be put together with those of one more.
-#[derive(Clone, Copy)]
-struct Part<'a> {
-    leaves: &'a [Node],
-    sign: u64,
-    weight: Weight,
+/// The cuts that are found of a gate, and the room in which two are put together.
+#[derive(Drop)]
+struct Found {
+    cuts: Vec<Cut>,
+    nodes: Vec<Node>,
+}
+
+/// What the work on one gate leaves behind, so that the next one needs no memory of its own.
+#[derive(Drop)]
+struct Memory {
+    found: Found,
+    /// The cuts that were found without the last pins.
+    before: Vec<Cut>,
+}
+
+impl Memory {
+    fn new(alloc: Global) -> Memory {
+        Memory {
+            found: Found {
+                cuts: Vec::new(alloc),
+                nodes: Vec::new(alloc),
+            },
+            before: Vec::new(alloc),
+        }
+    }
 }
 
 /// A round over a circuit, for cuts of at most `k` leaves.
@@ -120,51 +140,85 @@ struct Round<'a> {
     circuit: &'a Circuit,
     k: u8,
     aim: Aim,
+    offers: Offers,
     /// The most cuts that are kept of a node.
     most: usize,
 }
 
 impl Round<'_> {
+    /// Chooses a cut for each gate.
+    fn run(&self, plan: &mut Plan, memory: &mut Memory) -> Result<(), NoMemory> {
+        match self.offers {
+            Offers::Anew => self.run_anew(plan, memory),
+            Offers::AnewAndKept => {
+                plan.kept = Level::empty(self.alloc, self.circuit)?;
+                self.run_anew(plan, memory)
+            }
+            Offers::Again => self.run_again(plan, memory),
+        }
+    }
+
     /// Chooses among the cuts that are kept.
-    fn run_again(&self, plan: &mut Plan) -> Result<(), NoMemory> {
+    fn run_again(&self, plan: &mut Plan, memory: &mut Memory) -> Result<(), NoMemory> {
         for place in 0..plan.sequence.len() {
             if let Some(gate) = plan.sequence.get(place).copied() {
-                self.choose_again(plan, gate)?;
+                self.choose_again(plan, memory, gate)?;
             }
         }
         Ok(())
     }
 
     /// Chooses among the cuts that are kept of a gate. A table that isn't in use keeps its cut where tables are counted.
-    fn choose_again(&self, plan: &mut Plan, gate: Signal) -> Result<(), NoMemory> {
+    fn choose_again(
+        &self,
+        plan: &mut Plan,
+        memory: &mut Memory,
+        gate: Signal,
+    ) -> Result<(), NoMemory> {
         if self.aim == Aim::Exact && !plan.counts.is_used(gate.0 as usize) {
             let present = plan.present(gate);
             plan.note(gate, present);
             return Ok(());
         }
-        plan.weigh_again(gate);
-        self.choose(plan, gate)
+        self.take_kept(plan, &mut memory.found.cuts, gate)?;
+        self.choose(plan, gate, memory.found.cuts.as_slice())
     }
 
-    /// Chooses among cuts that are put together anew, from the least lag on, and keeps them.
-    fn run(&self, plan: &mut Plan) -> Result<(), NoMemory> {
-        plan.kept = Level::empty(self.alloc, self.circuit)?;
+    /// The cuts that are kept of a gate, as they weigh now.
+    fn take_kept(&self, plan: &Plan, cuts: &mut Vec<Cut>, gate: Signal) -> Result<(), NoMemory> {
+        cuts.clear();
+        for kept in plan.kept.cuts_of(gate) {
+            let cut = plan.kept.cut(kept);
+            let weight = plan.weigh(cut.leaves);
+            cuts.push(Cut::new(self.alloc, CutRef { weight, ..cut })?)?;
+        }
+        Ok(())
+    }
+
+    /// Chooses among cuts that are put together anew, from the least lag on.
+    fn run_anew(&self, plan: &mut Plan, memory: &mut Memory) -> Result<(), NoMemory> {
         let mut below = None;
         for lag in 0..u8::MAX {
             if lag > plan.deepest {
                 break;
             }
-            let level = self.run_at(plan, lag, below.as_ref())?;
+            let level = self.run_at(plan, memory, lag, below.as_ref())?;
             below = Some(level);
         }
         Ok(())
     }
 
     /// Chooses cuts anew for the gates whose labels have a lag.
-    fn run_at(&self, plan: &mut Plan, lag: u8, below: Option<&Level>) -> Result<Level, NoMemory> {
+    fn run_at(
+        &self,
+        plan: &mut Plan,
+        memory: &mut Memory,
+        lag: u8,
+        below: Option<&Level>,
+    ) -> Result<Level, NoMemory> {
         let mut level = Level::new(self.alloc, self.circuit, lag, below)?;
         for gate in self.circuit.order() {
-            self.take_up(plan, &mut level, *gate, lag)?;
+            self.take_up(plan, memory, &mut level, *gate, lag)?;
         }
         Ok(level)
     }
@@ -173,17 +227,20 @@ impl Round<'_> {
     fn take_up(
         &self,
         plan: &mut Plan,
+        memory: &mut Memory,
         level: &mut Level,
         gate: Signal,
         lag: u8,
     ) -> Result<(), NoMemory> {
         let fact = plan.fact(gate);
-        let is_root = fact.labelled && fact.lag == lag;
         let wanted = self.wanted(plan, &fact, lag);
-        let cuts = self.cuts_of(plan, level, gate, wanted)?;
-        if is_root {
-            plan.kept.add_gate(gate, lag, None, &cuts)?;
-            self.choose(plan, gate)?;
+        self.find(plan, memory, level, gate, wanted)?;
+        let cuts = memory.found.cuts.as_slice();
+        if fact.labelled && fact.lag == lag {
+            if self.offers == Offers::AnewAndKept {
+                plan.kept.add_gate(gate, lag, None, cuts)?;
+            }
+            self.choose(plan, gate, cuts)?;
         }
         let may_be_leaf = fact.labelled && lag <= fact.lag;
         let itself = if may_be_leaf {
@@ -191,7 +248,7 @@ impl Round<'_> {
         } else {
             None
         };
-        level.add_gate(gate, lag, itself, &cuts)
+        level.add_gate(gate, lag, itself, cuts)
     }
 
     /// Which cuts of a gate's node at an advance are of use.
@@ -206,230 +263,248 @@ impl Round<'_> {
         Wanted { required, most }
     }
 
-    /// The best cuts of a gate's node, of those that are in the level.
-    fn cuts_of(
+    /// Finds the best cuts of a gate's node, of those that are in the level.
+    fn find(
         &self,
         plan: &Plan,
+        memory: &mut Memory,
         level: &Level,
         gate: Signal,
         wanted: Wanted,
-    ) -> Result<Vec<Cut>, NoMemory> {
+    ) -> Result<(), NoMemory> {
+        memory.found.cuts.clear();
         if gate.0 >= self.circuit.signals() {
-            return Ok(Vec::new(self.alloc));
+            return Ok(());
         }
         match self.circuit.driver(gate) {
-            Driver::Gate { pins, .. } => self.cuts_over(plan, level, pins.as_slice(), wanted),
-            Driver::Input | Driver::Latch { .. } => Ok(Vec::new(self.alloc)),
+            Driver::Gate { pins, .. } => {
+                self.find_over(plan, memory, level, pins.as_slice(), wanted)
+            }
+            Driver::Input | Driver::Latch { .. } => Ok(()),
         }
     }
 
-    /// The best cuts of a node that reads some signals.
-    fn cuts_over(
+    /// Finds the best cuts of a node that reads some signals.
+    fn find_over(
         &self,
         plan: &Plan,
+        memory: &mut Memory,
         level: &Level,
         pins: &[Signal],
         wanted: Wanted,
-    ) -> Result<Vec<Cut>, NoMemory> {
+    ) -> Result<(), NoMemory> {
         let Some((first, others)) = pins.split_first() else {
-            return self.without_leaves();
+            return self.add_empty(&mut memory.found.cuts);
         };
         let Some((second, others)) = others.split_first() else {
-            return self.taken(level, *first, wanted.required);
+            return self.take(&mut memory.found.cuts, level, *first, wanted.required);
         };
-        let mut cuts = self.joined_both(plan, level, *first, *second, wanted)?;
+        self.join_both(plan, memory, level, *first, *second, wanted)?;
         for pin in others {
-            cuts = self.joined(plan, level, &cuts, *pin, wanted)?;
+            self.join_one_more(plan, memory, level, *pin, wanted)?;
         }
-        Ok(cuts)
+        Ok(())
     }
 
-    /// The cut of a node that reads nothing.
-    fn without_leaves(&self) -> Result<Vec<Cut>, NoMemory> {
-        let mut cuts = Vec::new(self.alloc);
-        cuts.push(Cut {
-            leaves: SmallVec::new(self.alloc),
+    /// Adds the cut of a node that reads nothing.
+    fn add_empty(&self, cuts: &mut Vec<Cut>) -> Result<(), NoMemory> {
+        let empty = CutRef {
+            leaves: &[],
             sign: 0,
             weight: Weight {
                 arrival: 0,
                 flow: 0,
                 leaves: 0,
             },
-        })?;
-        Ok(cuts)
+        };
+        cuts.push(Cut::new(self.alloc, empty)?)?;
+        Ok(())
     }
 
-    /// The best cuts of a signal: as many as are kept of a node, and the node itself. In a tower of gates of one pin each would bring
-    /// itself along, so that without a bound they would add up.
-    fn taken(&self, level: &Level, pin: Signal, required: u32) -> Result<Vec<Cut>, NoMemory> {
-        let most = self.most.saturating_add(1);
-        let mut cuts = Vec::with_capacity(self.alloc, most)?;
-        for cut in level.cuts_of(pin) {
-            if cut.weight.arrival < required {
-                let taken = Cut {
-                    leaves: SmallVec::from_slice(self.alloc, level.leaves_of(cut))?,
-                    sign: cut.sign,
-                    weight: cut.weight,
-                };
-                offer(&mut cuts, taken, self.aim == Aim::Early, most)?;
-            }
-        }
-        Ok(cuts)
-    }
-
-    /// The best cuts of one signal with those of another.
-    fn joined_both(
+    /// Takes the best cuts of a signal: as many as are kept of a node, and the node itself. In a tower of gates of one pin each would
+    /// bring itself along, so that without a bound they would add up.
+    fn take(
         &self,
-        plan: &Plan,
+        cuts: &mut Vec<Cut>,
         level: &Level,
-        first: Signal,
-        second: Signal,
-        wanted: Wanted,
-    ) -> Result<Vec<Cut>, NoMemory> {
-        let mut kept = Vec::with_capacity(self.alloc, wanted.most.saturating_add(1))?;
-        for cut in level.cuts_of(first) {
-            let part = Part {
-                leaves: level.leaves_of(cut),
-                sign: cut.sign,
-                weight: cut.weight,
-            };
-            self.join(plan, level, &mut kept, part, second, wanted)?;
-        }
-        Ok(kept)
-    }
-
-    /// The best of some cuts with those of one signal more.
-    fn joined(
-        &self,
-        plan: &Plan,
-        level: &Level,
-        cuts: &[Cut],
         pin: Signal,
-        wanted: Wanted,
-    ) -> Result<Vec<Cut>, NoMemory> {
-        let mut kept = Vec::with_capacity(self.alloc, wanted.most.saturating_add(1))?;
-        for cut in cuts {
-            let part = Part {
-                leaves: cut.leaves.as_slice(),
-                sign: cut.sign,
-                weight: cut.weight,
-            };
-            self.join(plan, level, &mut kept, part, pin, wanted)?;
-        }
-        Ok(kept)
-    }
-
-    /// Offers a part with each cut of a signal.
-    fn join(
-        &self,
-        plan: &Plan,
-        level: &Level,
-        kept: &mut Vec<Cut>,
-        part: Part<'_>,
-        pin: Signal,
-        wanted: Wanted,
+        required: u32,
     ) -> Result<(), NoMemory> {
-        if part.weight.arrival >= wanted.required {
-            return Ok(());
-        }
-        for other in level.cuts_of(pin) {
-            if self.is_useless(kept, part.sign, part.weight, other, wanted) {
-                continue;
-            }
-            if let Some(leaves) = merged(self.alloc, self.k, part.leaves, level.leaves_of(other))? {
-                let weight = plan.weigh(leaves.as_slice());
-                let sign = part.sign | other.sign;
-                let both = Cut {
-                    leaves,
-                    sign,
-                    weight,
-                };
-                offer(kept, both, self.aim == Aim::Early, wanted.most)?;
+        let most = self.most.saturating_add(1);
+        for kept in level.cuts_of(pin) {
+            let cut = level.cut(kept);
+            if cut.weight.arrival < required {
+                offer(self.alloc, cuts, cut, self.aim == Aim::Early, most)?;
             }
         }
         Ok(())
     }
 
-    /// Whether a cut with a sign and a weight is surely too large together with another, or too late, or behind all that are kept.
-    fn is_useless(
+    /// Finds the best cuts of one signal with those of another.
+    fn join_both(
         &self,
-        kept: &[Cut],
-        sign: u64,
-        weight: Weight,
-        other: &Kept,
+        plan: &Plan,
+        memory: &mut Memory,
+        level: &Level,
+        first: Signal,
+        second: Signal,
         wanted: Wanted,
-    ) -> bool {
-        if other.weight.arrival >= wanted.required || other.is_too_large(self.k, sign) {
+    ) -> Result<(), NoMemory> {
+        for kept in level.cuts_of(first) {
+            self.join(
+                plan,
+                &mut memory.found,
+                level,
+                level.cut(kept),
+                second,
+                wanted,
+            )?;
+        }
+        Ok(())
+    }
+
+    /// Finds the best of the cuts so far with those of one signal more.
+    fn join_one_more(
+        &self,
+        plan: &Plan,
+        memory: &mut Memory,
+        level: &Level,
+        pin: Signal,
+        wanted: Wanted,
+    ) -> Result<(), NoMemory> {
+        mem::swap(&mut memory.found.cuts, &mut memory.before);
+        memory.found.cuts.clear();
+        for cut in memory.before.iter() {
+            self.join(plan, &mut memory.found, level, cut.by_ref(), pin, wanted)?;
+        }
+        Ok(())
+    }
+
+    /// Offers a cut of some pins with each cut of one more.
+    fn join(
+        &self,
+        plan: &Plan,
+        found: &mut Found,
+        level: &Level,
+        cut: CutRef<'_>,
+        pin: Signal,
+        wanted: Wanted,
+    ) -> Result<(), NoMemory> {
+        if cut.weight.arrival >= wanted.required {
+            return Ok(());
+        }
+        for kept in level.cuts_of(pin) {
+            let other = level.cut(kept);
+            let are_apart = cut.is_apart_from(other);
+            let at_best = cut.weight.at_best_with(other.weight, are_apart);
+            if cut.is_too_large_with(self.k, other)
+                || self.is_useless(&found.cuts, at_best, wanted)
+            {
+                continue;
+            }
+            if merge(&mut found.nodes, self.k, cut.leaves, other.leaves)? {
+                let leaves = found.nodes.as_slice();
+                let weight = if are_apart {
+                    at_best
+                } else {
+                    plan.weigh(leaves)
+                };
+                let sign = cut.sign | other.sign;
+                let both = CutRef {
+                    leaves,
+                    sign,
+                    weight,
+                };
+                offer(
+                    self.alloc,
+                    &mut found.cuts,
+                    both,
+                    self.aim == Aim::Early,
+                    wanted.most,
+                )?;
+            }
+        }
+        Ok(())
+    }
+
+    /// Whether a cut that weighs no less than this is too late, or behind all that are found.
+    fn is_useless(&self, cuts: &[Cut], at_best: Weight, wanted: Wanted) -> bool {
+        if at_best.arrival >= wanted.required {
             return true;
         }
-        match kept.last() {
-            Some(last) if kept.len() >= wanted.most => {
-                let at_best = weight.at_best_with(other.weight, sign & other.sign == 0);
-                !at_best.is_before(last.weight, self.aim == Aim::Early)
+        match cuts.last() {
+            Some(last) if cuts.len() >= wanted.most => {
+                !at_best.is_before(last.by_ref().weight, self.aim == Aim::Early)
             }
             _ => false,
         }
     }
 
-    /// Chooses one of the kept cuts of a gate, or the one that it has.
-    fn choose(&self, plan: &mut Plan, gate: Signal) -> Result<(), NoMemory> {
+    /// Chooses one of some cuts for a gate, or the one that it has.
+    fn choose(&self, plan: &mut Plan, gate: Signal, cuts: &[Cut]) -> Result<(), NoMemory> {
         match self.aim {
-            Aim::Early => self.choose_first(plan, gate, u32::MAX),
+            Aim::Early => self.choose_first(plan, gate, cuts, u32::MAX),
             Aim::Flow => {
                 let time = plan.fact(gate).required;
-                self.choose_first(plan, gate, time)
+                self.choose_first(plan, gate, cuts, time)
             }
-            Aim::Exact => self.choose_exactly(plan, gate),
+            Aim::Exact => self.choose_exactly(plan, gate, cuts),
         }
     }
 
     /// Chooses the first cut of a gate that arrives before a time, and the present one where there is none.
-    fn choose_first(&self, plan: &mut Plan, gate: Signal, time: u32) -> Result<(), NoMemory> {
+    fn choose_first(
+        &self,
+        plan: &mut Plan,
+        gate: Signal,
+        cuts: &[Cut],
+        time: u32,
+    ) -> Result<(), NoMemory> {
         let mut best = plan.present(gate);
         let mut chosen = None;
-        for cut in plan.kept.cuts_of(gate) {
-            let is_better = best.arrival >= time
-                || cut.weight.is_before(best, self.aim == Aim::Early);
-            if cut.weight.arrival < time && is_better {
-                best = cut.weight;
-                chosen = Some(*cut);
+        for cut in cuts {
+            let weight = cut.by_ref().weight;
+            let is_better = best.arrival >= time || weight.is_before(best, self.aim == Aim::Early);
+            if weight.arrival < time && is_better {
+                best = weight;
+                chosen = Some(cut.by_ref());
             }
         }
         plan.choose(self.alloc, gate, chosen, best)
     }
 
     /// Chooses the cut of a gate that brings the fewest tables into use, and of several the one that arrives first.
-    fn choose_exactly(&self, plan: &mut Plan, gate: Signal) -> Result<(), NoMemory> {
+    fn choose_exactly(&self, plan: &mut Plan, gate: Signal, cuts: &[Cut]) -> Result<(), NoMemory> {
         let is_used = plan.counts.is_used(gate.0 as usize);
         if is_used {
             let leaves = leaves_in(&plan.choices, gate);
             plan.counts.take_out(&plan.choices, leaves, MOST_TRIED)?;
         }
-        self.choose_least(plan, gate)?;
+        self.choose_least(plan, gate, cuts)?;
         if is_used {
             let leaves = leaves_in(&plan.choices, gate);
-            plan.counts.bring_in(&plan.choices, leaves, usize::MAX)?;
+            plan.counts.bring_in(&plan.choices, leaves)?;
         }
         Ok(())
     }
 
     /// The same for a gate whose present cut isn't counted.
-    fn choose_least(&self, plan: &mut Plan, gate: Signal) -> Result<(), NoMemory> {
+    fn choose_least(&self, plan: &mut Plan, gate: Signal, cuts: &[Cut]) -> Result<(), NoMemory> {
         let time = plan.fact(gate).required;
         let mut best = plan.present(gate);
         let leaves = leaves_in(&plan.choices, gate);
-        let mut least = plan.counts.area_of(&plan.choices, leaves)?;
+        let mut least = plan.counts.area_of(&plan.choices, leaves, u32::MAX)?;
         let mut chosen = None;
-        for cut in plan.kept.cuts_of(gate) {
+        for cut in cuts {
+            let cut = cut.by_ref();
             if cut.weight.arrival >= time {
                 continue;
             }
-            let leaves = plan.kept.leaves_of(cut);
-            let area = plan.counts.area_of(&plan.choices, leaves)?;
+            let area = plan.counts.area_of(&plan.choices, cut.leaves, least)?;
             if area < least || area == least && cut.weight.is_nearer(best) {
                 best = cut.weight;
                 least = area;
-                chosen = Some(*cut);
+                chosen = Some(cut);
             }
         }
         plan.choose(self.alloc, gate, chosen, best)
