@@ -129,11 +129,11 @@ impl Counts {
         &mut self,
         choices: &[SmallVec<Node, 8>],
         leaves: &[Node],
-        most: u32,
-    ) -> Result<u32, NoMemory> {
+        most: usize,
+    ) -> Result<usize, NoMemory> {
         let area = self.try_out(choices, leaves, most)?;
         self.take_back();
-        Ok(area.unwrap_or(u32::MAX))
+        Ok(area.unwrap_or(usize::MAX))
     }
 
     /// Brings the tables that some leaves read into use, and those that they read in turn, but counts no reading. `None` says that
@@ -142,12 +142,12 @@ impl Counts {
         &mut self,
         choices: &[SmallVec<Node, 8>],
         leaves: &[Node],
-        most: u32,
-    ) -> Result<Option<u32>, NoMemory> {
+        most: usize,
+    ) -> Result<Option<usize>, NoMemory> {
         self.trail.clear();
         let mut readings = self.try_all(leaves)?;
         for place in 0..MOST_TRIED {
-            let tables = self.trail.len() as u32;
+            let tables = self.trail.len();
             if readings >= MOST_TRIED || tables > most {
                 return Ok(None);
             }

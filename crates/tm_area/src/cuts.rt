@@ -148,8 +148,8 @@ pub(crate) fn merge(
         let Some(node) = lesser(left.get(i), right.get(j)) else {
             return Ok(true);
         };
-        i = past(left, i, node);
-        j = past(right, j, node);
+        i = past(left, i, &node);
+        j = past(right, j, &node);
         nodes.push(node)?;
     }
     Ok(false)
@@ -167,9 +167,9 @@ fn lesser(left: Option<&Node>, right: Option<&Node>) -> Option<Node> {
 }
 
 /// The place after this one, where the node at it is the one that was taken.
-fn past(nodes: &[Node], place: usize, taken: Node) -> usize {
+fn past(nodes: &[Node], place: usize, taken: &Node) -> usize {
     match nodes.get(place) {
-        Some(node) if *node == taken => place.saturating_add(1),
+        Some(node) if *node == *taken => place.saturating_add(1),
         _ => place,
     }
 }

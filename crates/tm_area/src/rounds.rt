@@ -493,7 +493,7 @@ impl Round<'_> {
         let time = plan.fact(gate).required;
         let mut best = plan.present(gate);
         let leaves = leaves_in(&plan.choices, gate);
-        let mut least = plan.counts.area_of(&plan.choices, leaves, u32::MAX)?;
+        let mut least = plan.counts.area_of(&plan.choices, leaves, usize::MAX)?;
         let mut chosen = None;
         for cut in cuts {
             let cut = cut.by_ref();
