@@ -1,6 +1,5 @@
 // Cuts of a node with what they cost, of which the few best are kept.
 
-use smallvec::SmallVec;
 use std::alloc::Global;
 use tm_bits::NoMemory;
 use tm_unroll::Node;
@@ -53,56 +52,174 @@ impl Weight {
     }
 }
 
-/// A cut of a node: its leaves in ascending order, a sign of them (`sign_of`), and their weight.
-#[derive(Drop)]
-pub(crate) struct Cut {
-    leaves: SmallVec<Node, 8>,
-    sign: u64,
-    weight: Weight,
-}
-
-impl Cut {
-    /// A cut that is copied from where it stands.
-    pub fn new(alloc: Global, cut: CutRef<'_>) -> Result<Cut, NoMemory> {
-        Ok(Cut {
-            leaves: SmallVec::from_slice(alloc, cut.leaves)?,
-            sign: cut.sign,
-            weight: cut.weight,
-        })
-    }
-
-    /// The cut without its memory.
-    pub fn by_ref(&self) -> CutRef<'_> {
-        CutRef {
-            leaves: self.leaves.as_slice(),
-            sign: self.sign,
-            weight: self.weight,
-        }
-    }
-}
-
-/// A cut whose leaves stand elsewhere.
+/// A cut of a node, whose leaves stand elsewhere: they ascend, and have a sign (`sign_of`) and a weight.
 #[derive(Clone, Copy)]
-pub(crate) struct CutRef<'a> {
+pub(crate) struct Cut<'a> {
     pub leaves: &'a [Node],
     pub sign: u64,
     pub weight: Weight,
 }
 
-impl CutRef<'_> {
-    /// Whether all leaves of this cut are leaves of another one, which is then of no use beside it.
-    fn is_within(self, other: CutRef<'_>) -> bool {
-        self.sign & !other.sign == 0 && are_among(self.leaves, other.leaves)
+/// A stretch of a list.
+#[derive(Clone, Copy)]
+pub(crate) struct Span {
+    pub from: usize,
+    pub to: usize,
+}
+
+/// A cut in a list: where its leaves stand, their sign, and the weight that they had.
+#[derive(Clone, Copy)]
+pub(crate) struct Listed {
+    leaves: Span,
+    pub sign: u64,
+    pub weight: Weight,
+}
+
+/// Cuts whose leaves stand behind one another, so that a cut costs no allocation of its own.
+#[derive(Drop)]
+pub(crate) struct Cuts {
+    leaves: Vec<Node>,
+    cuts: Vec<Listed>,
+}
+
+impl Cuts {
+    /// No cuts.
+    pub fn new(alloc: Global) -> Cuts {
+        Cuts {
+            leaves: Vec::new(alloc),
+            cuts: Vec::new(alloc),
+        }
     }
 
-    /// Whether this cut surely has more than `k` leaves together with another one.
-    pub fn is_too_large_with(self, k: u8, other: CutRef<'_>) -> bool {
-        (self.sign | other.sign).count_ones() > u32::from(k)
+    /// Forgets all cuts, and keeps the memory.
+    pub fn clear(&mut self) {
+        self.leaves.clear();
+        self.cuts.clear();
     }
 
-    /// Whether this cut surely has no leaf in common with another one.
-    pub fn is_apart_from(self, other: CutRef<'_>) -> bool {
-        self.sign & other.sign == 0
+    /// The number of cuts.
+    pub fn len(&self) -> usize {
+        self.cuts.len()
+    }
+
+    /// All cuts, in their order.
+    pub fn all(&self) -> &[Listed] {
+        self.cuts.as_slice()
+    }
+
+    /// The cuts in a stretch.
+    pub fn some(&self, span: Span) -> &[Listed] {
+        if span.from <= span.to && span.to <= self.cuts.len() {
+            &self.cuts[span.from..span.to]
+        } else {
+            &[]
+        }
+    }
+
+    /// A cut with its leaves.
+    pub fn cut(&self, listed: &Listed) -> Cut<'_> {
+        Cut {
+            leaves: self.leaves_of(listed),
+            sign: listed.sign,
+            weight: listed.weight,
+        }
+    }
+
+    /// The leaves of a cut.
+    pub fn leaves_of(&self, listed: &Listed) -> &[Node] {
+        let span = listed.leaves;
+        if span.from <= span.to && span.to <= self.leaves.len() {
+            &self.leaves[span.from..span.to]
+        } else {
+            &[]
+        }
+    }
+
+    /// Adds a copy of a cut behind the others.
+    pub fn push(&mut self, cut: Cut<'_>) -> Result<(), NoMemory> {
+        let place = self.cuts.len();
+        self.insert(place, cut)
+    }
+
+    /// Puts a copy of a cut at a place, or behind the others.
+    fn insert(&mut self, place: usize, cut: Cut<'_>) -> Result<(), NoMemory> {
+        let from = self.leaves.len();
+        self.leaves.extend_from_slice(cut.leaves)?;
+        let to = self.leaves.len();
+        let listed = Listed {
+            leaves: Span { from, to },
+            sign: cut.sign,
+            weight: cut.weight,
+        };
+        let place = place.min(self.cuts.len());
+        self.cuts.insert(place, listed)?;
+        Ok(())
+    }
+
+    /// Takes a copy of a cut among so many that are kept, which stand in order, unless a part of it is there or others are better;
+    /// those of which it is a part go.
+    pub fn offer(&mut self, cut: Cut<'_>, early: bool, most: usize) -> Result<(), NoMemory> {
+        let Some(place) = self.place_for(cut, early, most) else {
+            return Ok(());
+        };
+        self.remove_wider(cut, place);
+        self.insert(place, cut)?;
+        self.cuts.truncate(most);
+        Ok(())
+    }
+
+    /// The place at which a cut belongs among so many that are kept. What is a part of it comes before it.
+    fn place_for(&self, cut: Cut<'_>, early: bool, most: usize) -> Option<usize> {
+        for (place, other) in self.cuts.iter().enumerate() {
+            if cut.weight.is_before(other.weight, early) {
+                return Some(place);
+            }
+            if other.may_be_within(cut.sign) && are_among(self.leaves_of(other), cut.leaves) {
+                return None;
+            }
+        }
+        if self.cuts.len() < most {
+            Some(self.cuts.len())
+        } else {
+            None
+        }
+    }
+
+    /// Removes the cuts from a place on of which a cut is a part.
+    fn remove_wider(&mut self, cut: Cut<'_>, place: usize) {
+        let mut place = place;
+        for _ in place..self.cuts.len() {
+            if place >= self.cuts.len() {
+                return;
+            }
+            if self.is_wider(place, cut) {
+                self.cuts.remove(place);
+            } else {
+                place += 1;
+            }
+        }
+    }
+
+    /// Whether all leaves of a cut are leaves of the one at a place, which is then of no use beside it.
+    fn is_wider(&self, place: usize, cut: Cut<'_>) -> bool {
+        match self.cuts.get(place) {
+            Some(other) => {
+                cut.sign & !other.sign == 0 && are_among(cut.leaves, self.leaves_of(other))
+            }
+            None => false,
+        }
+    }
+}
+
+impl Listed {
+    /// Whether all leaves of this cut may be leaves of one with a sign.
+    fn may_be_within(&self, sign: u64) -> bool {
+        self.sign & !sign == 0
+    }
+
+    /// Whether this cut and one with a sign surely have more than `k` leaves together.
+    pub fn is_too_large(&self, k: u8, sign: u64) -> bool {
+        (self.sign | sign).count_ones() > u32::from(k)
     }
 }
 
@@ -145,82 +262,22 @@ pub(crate) fn merge(
     nodes.clear();
     let (mut i, mut j) = (0usize, 0usize);
     for _ in 0..=k {
-        let Some(node) = lesser(left.get(i), right.get(j)) else {
+        let (x, y) = (key_at(left, i), key_at(right, j));
+        let taken = if x <= y { left.get(i) } else { right.get(j) };
+        let Some(node) = taken else {
             return Ok(true);
         };
-        i = past(left, i, &node);
-        j = past(right, j, &node);
-        nodes.push(node)?;
+        nodes.push(*node)?;
+        i = i.saturating_add(usize::from(x <= y));
+        j = j.saturating_add(usize::from(y <= x));
     }
     Ok(false)
 }
 
-/// The lesser of two nodes, where there is one.
-fn lesser(left: Option<&Node>, right: Option<&Node>) -> Option<Node> {
-    let Some(x) = left else {
-        return right.copied();
-    };
-    let Some(y) = right else {
-        return Some(*x);
-    };
-    if x.is_before(*y) { Some(*x) } else { Some(*y) }
-}
-
-/// The place after this one, where the node at it is the one that was taken.
-fn past(nodes: &[Node], place: usize, taken: &Node) -> usize {
+/// A number for the node at a place, in the order of nodes: greater than that of any where there is none.
+fn key_at(nodes: &[Node], place: usize) -> u64 {
     match nodes.get(place) {
-        Some(node) if *node == *taken => place.saturating_add(1),
-        _ => place,
-    }
-}
-
-/// Takes a copy of a cut among so many that are kept, which stand in order, unless a part of it is there or others are better; those
-/// of which it is a part go.
-pub(crate) fn offer(
-    alloc: Global,
-    cuts: &mut Vec<Cut>,
-    cut: CutRef<'_>,
-    early: bool,
-    most: usize,
-) -> Result<(), NoMemory> {
-    let Some(place) = place_for(cuts, cut, early, most) else {
-        return Ok(());
-    };
-    remove_wider(cuts, cut, place);
-    let place = place.min(cuts.len());
-    cuts.insert(place, Cut::new(alloc, cut)?)?;
-    cuts.truncate(most);
-    Ok(())
-}
-
-/// The place at which a cut belongs among so many that are kept. What is a part of it comes before it.
-fn place_for(cuts: &[Cut], cut: CutRef<'_>, early: bool, most: usize) -> Option<usize> {
-    for (place, other) in cuts.iter().enumerate() {
-        if cut.weight.is_before(other.weight, early) {
-            return Some(place);
-        }
-        if other.by_ref().is_within(cut) {
-            return None;
-        }
-    }
-    if cuts.len() < most {
-        Some(cuts.len())
-    } else {
-        None
-    }
-}
-
-/// Removes the cuts from a place on of which a cut is a part.
-fn remove_wider(cuts: &mut Vec<Cut>, cut: CutRef<'_>, place: usize) {
-    let mut place = place;
-    for _ in place..cuts.len() {
-        if place >= cuts.len() {
-            return;
-        }
-        if cut.is_within(cuts[place].by_ref()) {
-            cuts.remove(place);
-        } else {
-            place += 1;
-        }
+        Some(node) => u64::from(node.signal.0) << 8 | u64::from(node.advance),
+        None => u64::MAX,
     }
 }

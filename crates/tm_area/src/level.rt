@@ -1,35 +1,19 @@
-// Cuts that are kept of nodes. They stand behind one another in one list, so that a node costs no allocation of its own.
+// Cuts that are kept of nodes, by their signals.
 
-use crate::cuts::{Cut, CutRef, Weight, sign_of};
+use crate::cuts::{Cut, Cuts, Listed, Span, Weight, sign_of};
 use std::alloc::Global;
 use tm_bits::NoMemory;
 use tm_circuit::{Circuit, Driver, Signal};
 use tm_unroll::Node;
 
-/// A stretch of a list.
-#[derive(Clone, Copy)]
-struct Span {
-    from: usize,
-    to: usize,
-}
-
 /// The span of what has nothing.
 const NOTHING: Span = Span { from: 0, to: 0 };
-
-/// A cut that is kept: where its leaves stand, their sign, and the weight that they had.
-#[derive(Clone, Copy)]
-pub(crate) struct Kept {
-    leaves: Span,
-    sign: u64,
-    weight: Weight,
-}
 
 /// Cuts of nodes by their signals. In one for all nodes of an advance they are what may stand for a node among the leaves of a cut: the
 /// node itself, where it may be a leaf, and its cuts.
 #[derive(Drop)]
 pub(crate) struct Level {
-    leaves: Vec<Node>,
-    cuts: Vec<Kept>,
+    cuts: Cuts,
     /// The cuts of each signal's node.
     spans: Vec<Span>,
 }
@@ -38,8 +22,7 @@ impl Level {
     /// No cuts.
     pub fn empty(alloc: Global, circuit: &Circuit) -> Result<Level, NoMemory> {
         Ok(Level {
-            leaves: Vec::new(alloc),
-            cuts: Vec::new(alloc),
+            cuts: Cuts::new(alloc),
             spans: vec![in alloc; NOTHING; circuit.signals() as usize]?,
         })
     }
@@ -98,7 +81,7 @@ impl Level {
     /// Adds the cut of a node itself.
     fn add_itself(&mut self, signal: Signal, advance: u8, weight: Weight) -> Result<(), NoMemory> {
         let itself = [Node { signal, advance }];
-        self.add_cut(CutRef {
+        self.cuts.push(Cut {
             leaves: &itself,
             sign: sign_of(&itself),
             weight,
@@ -111,14 +94,14 @@ impl Level {
         gate: Signal,
         advance: u8,
         itself: Option<Weight>,
-        cuts: &[Cut],
+        cuts: &Cuts,
     ) -> Result<(), NoMemory> {
         let from = self.cuts.len();
         if let Some(weight) = itself {
             self.add_itself(gate, advance, weight)?;
         }
-        for cut in cuts {
-            self.add_cut(cut.by_ref())?;
+        for listed in cuts.all() {
+            self.cuts.push(cuts.cut(listed))?;
         }
         self.close(gate, from);
         Ok(())
@@ -126,22 +109,9 @@ impl Level {
 
     /// Adds all cuts that a signal's node has in another level.
     fn add_all_of(&mut self, other: &Level, signal: Signal) -> Result<(), NoMemory> {
-        for kept in other.cuts_of(signal) {
-            self.add_cut(other.cut(kept))?;
+        for listed in other.cuts_of(signal) {
+            self.cuts.push(other.cuts.cut(listed))?;
         }
-        Ok(())
-    }
-
-    /// Adds a copy of a cut.
-    fn add_cut(&mut self, cut: CutRef<'_>) -> Result<(), NoMemory> {
-        let from = self.leaves.len();
-        self.leaves.extend_from_slice(cut.leaves)?;
-        let to = self.leaves.len();
-        self.cuts.push(Kept {
-            leaves: Span { from, to },
-            sign: cut.sign,
-            weight: cut.weight,
-        })?;
         Ok(())
     }
 
@@ -154,30 +124,20 @@ impl Level {
     }
 
     /// The cuts of a signal's node.
-    pub fn cuts_of(&self, signal: Signal) -> &[Kept] {
+    pub fn cuts_of(&self, signal: Signal) -> &[Listed] {
         match self.spans.get(signal.0 as usize) {
-            Some(span) if span.from <= span.to && span.to <= self.cuts.len() => {
-                &self.cuts[span.from..span.to]
-            }
-            _ => &[],
+            Some(span) => self.cuts.some(*span),
+            None => &[],
         }
     }
 
-    /// A cut that is kept here.
-    pub fn cut(&self, kept: &Kept) -> CutRef<'_> {
-        CutRef {
-            leaves: self.leaves_in(kept.leaves),
-            sign: kept.sign,
-            weight: kept.weight,
-        }
+    /// A cut that is kept here, with its leaves.
+    pub fn cut(&self, listed: &Listed) -> Cut<'_> {
+        self.cuts.cut(listed)
     }
 
-    /// The leaves in a stretch.
-    fn leaves_in(&self, span: Span) -> &[Node] {
-        if span.from <= span.to && span.to <= self.leaves.len() {
-            &self.leaves[span.from..span.to]
-        } else {
-            &[]
-        }
+    /// The leaves of a cut that is kept here.
+    pub fn leaves_of(&self, listed: &Listed) -> &[Node] {
+        self.cuts.leaves_of(listed)
     }
 }

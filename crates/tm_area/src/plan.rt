@@ -3,7 +3,7 @@
 ghost use Rattle.std.specs.Prelude.{◌≡◌, ◌<◌, length};
 
 use crate::counts::{Counts, leaves_in};
-use crate::cuts::{CutRef, Weight};
+use crate::cuts::{Cut, Weight};
 use crate::level::Level;
 use smallvec::SmallVec;
 use std::alloc::Global;
@@ -160,7 +160,7 @@ impl Plan {
         &mut self,
         alloc: Global,
         gate: Signal,
-        cut: Option<CutRef<'_>>,
+        cut: Option<Cut<'_>>,
         weight: Weight,
     ) -> Result<(), NoMemory> {
         if let Some(cut) = cut {

@@ -3,7 +3,7 @@
 ghost use Rattle.std.specs.Prelude.{◌≡◌, length};
 
 use crate::counts::{MOST_TRIED, leaves_in};
-use crate::cuts::{Cut, CutRef, Weight, merge, offer};
+use crate::cuts::{Cut, Cuts, Weight, merge};
 use crate::level::Level;
 use crate::plan::{Fact, Plan};
 use std::alloc::Global;
@@ -109,7 +109,7 @@ struct Wanted {
 /// The cuts that are found of a gate, and the room in which two are put together.
 #[derive(Drop)]
 struct Found {
-    cuts: Vec<Cut>,
+    cuts: Cuts,
     nodes: Vec<Node>,
 }
 
@@ -118,17 +118,17 @@ struct Found {
 struct Memory {
     found: Found,
     /// The cuts that were found without the last pins.
-    before: Vec<Cut>,
+    before: Cuts,
 }
 
 impl Memory {
     fn new(alloc: Global) -> Memory {
         Memory {
             found: Found {
-                cuts: Vec::new(alloc),
+                cuts: Cuts::new(alloc),
                 nodes: Vec::new(alloc),
             },
-            before: Vec::new(alloc),
+            before: Cuts::new(alloc),
         }
     }
 }
@@ -181,16 +181,19 @@ impl Round<'_> {
             return Ok(());
         }
         self.take_kept(plan, &mut memory.found.cuts, gate)?;
-        self.choose(plan, gate, memory.found.cuts.as_slice())
+        self.choose(plan, gate, &memory.found.cuts)
     }
 
     /// The cuts that are kept of a gate, as they weigh now.
-    fn take_kept(&self, plan: &Plan, cuts: &mut Vec<Cut>, gate: Signal) -> Result<(), NoMemory> {
+    fn take_kept(&self, plan: &Plan, cuts: &mut Cuts, gate: Signal) -> Result<(), NoMemory> {
         cuts.clear();
         for kept in plan.kept.cuts_of(gate) {
-            let cut = plan.kept.cut(kept);
-            let weight = plan.weigh(cut.leaves);
-            cuts.push(Cut::new(self.alloc, CutRef { weight, ..cut })?)?;
+            let leaves = plan.kept.leaves_of(kept);
+            cuts.push(Cut {
+                leaves,
+                sign: kept.sign,
+                weight: plan.weigh(leaves),
+            })?;
         }
         Ok(())
     }
@@ -235,7 +238,7 @@ impl Round<'_> {
         let fact = plan.fact(gate);
         let wanted = self.wanted(plan, &fact, lag);
         self.find(plan, memory, level, gate, wanted)?;
-        let cuts = memory.found.cuts.as_slice();
+        let cuts = &memory.found.cuts;
         if fact.labelled && fact.lag == lag {
             if self.offers == Offers::AnewAndKept {
                 plan.kept.add_gate(gate, lag, None, cuts)?;
@@ -307,8 +310,8 @@ impl Round<'_> {
     }
 
     /// Adds the cut of a node that reads nothing.
-    fn add_empty(&self, cuts: &mut Vec<Cut>) -> Result<(), NoMemory> {
-        let empty = CutRef {
+    fn add_empty(&self, cuts: &mut Cuts) -> Result<(), NoMemory> {
+        cuts.push(Cut {
             leaves: &[],
             sign: 0,
             weight: Weight {
@@ -316,25 +319,22 @@ impl Round<'_> {
                 flow: 0,
                 leaves: 0,
             },
-        };
-        cuts.push(Cut::new(self.alloc, empty)?)?;
-        Ok(())
+        })
     }
 
     /// Takes the best cuts of a signal: as many as are kept of a node, and the node itself. In a tower of gates of one pin each would
     /// bring itself along, so that without a bound they would add up.
     fn take(
         &self,
-        cuts: &mut Vec<Cut>,
+        cuts: &mut Cuts,
         level: &Level,
         pin: Signal,
         required: u32,
     ) -> Result<(), NoMemory> {
         let most = self.most.saturating_add(1);
         for kept in level.cuts_of(pin) {
-            let cut = level.cut(kept);
-            if cut.weight.arrival < required {
-                offer(self.alloc, cuts, cut, self.aim == Aim::Early, most)?;
+            if kept.weight.arrival < required {
+                cuts.offer(level.cut(kept), self.aim == Aim::Early, most)?;
             }
         }
         Ok(())
@@ -374,8 +374,15 @@ impl Round<'_> {
     ) -> Result<(), NoMemory> {
         mem::swap(&mut memory.found.cuts, &mut memory.before);
         memory.found.cuts.clear();
-        for cut in memory.before.iter() {
-            self.join(plan, &mut memory.found, level, cut.by_ref(), pin, wanted)?;
+        for listed in memory.before.all() {
+            self.join(
+                plan,
+                &mut memory.found,
+                level,
+                memory.before.cut(listed),
+                pin,
+                wanted,
+            )?;
         }
         Ok(())
     }
@@ -386,62 +393,50 @@ impl Round<'_> {
         plan: &Plan,
         found: &mut Found,
         level: &Level,
-        cut: CutRef<'_>,
+        cut: Cut<'_>,
         pin: Signal,
         wanted: Wanted,
     ) -> Result<(), NoMemory> {
         if cut.weight.arrival >= wanted.required {
             return Ok(());
         }
-        for kept in level.cuts_of(pin) {
-            let other = level.cut(kept);
-            let are_apart = cut.is_apart_from(other);
-            let at_best = cut.weight.at_best_with(other.weight, are_apart);
-            if cut.is_too_large_with(self.k, other)
-                || self.is_useless(&found.cuts, at_best, wanted)
-            {
+        for other in level.cuts_of(pin) {
+            if other.is_too_large(self.k, cut.sign) {
                 continue;
             }
-            if merge(&mut found.nodes, self.k, cut.leaves, other.leaves)? {
+            let are_apart = cut.sign & other.sign == 0;
+            let at_best = cut.weight.at_best_with(other.weight, are_apart);
+            if self.is_useless(&found.cuts, at_best, wanted) {
+                continue;
+            }
+            if merge(&mut found.nodes, self.k, cut.leaves, level.leaves_of(other))? {
                 let leaves = found.nodes.as_slice();
-                let weight = if are_apart {
-                    at_best
-                } else {
-                    plan.weigh(leaves)
-                };
-                let sign = cut.sign | other.sign;
-                let both = CutRef {
+                let both = Cut {
                     leaves,
-                    sign,
-                    weight,
+                    sign: cut.sign | other.sign,
+                    weight: plan.weigh(leaves),
                 };
-                offer(
-                    self.alloc,
-                    &mut found.cuts,
-                    both,
-                    self.aim == Aim::Early,
-                    wanted.most,
-                )?;
+                found.cuts.offer(both, self.aim == Aim::Early, wanted.most)?;
             }
         }
         Ok(())
     }
 
     /// Whether a cut that weighs no less than this is too late, or behind all that are found.
-    fn is_useless(&self, cuts: &[Cut], at_best: Weight, wanted: Wanted) -> bool {
+    fn is_useless(&self, cuts: &Cuts, at_best: Weight, wanted: Wanted) -> bool {
         if at_best.arrival >= wanted.required {
             return true;
         }
-        match cuts.last() {
+        match cuts.all().last() {
             Some(last) if cuts.len() >= wanted.most => {
-                !at_best.is_before(last.by_ref().weight, self.aim == Aim::Early)
+                !at_best.is_before(last.weight, self.aim == Aim::Early)
             }
             _ => false,
         }
     }
 
     /// Chooses one of some cuts for a gate, or the one that it has.
-    fn choose(&self, plan: &mut Plan, gate: Signal, cuts: &[Cut]) -> Result<(), NoMemory> {
+    fn choose(&self, plan: &mut Plan, gate: Signal, cuts: &Cuts) -> Result<(), NoMemory> {
         match self.aim {
             Aim::Early => self.choose_first(plan, gate, cuts, u32::MAX),
             Aim::Flow => {
@@ -457,24 +452,24 @@ impl Round<'_> {
         &self,
         plan: &mut Plan,
         gate: Signal,
-        cuts: &[Cut],
+        cuts: &Cuts,
         time: u32,
     ) -> Result<(), NoMemory> {
         let mut best = plan.present(gate);
         let mut chosen = None;
-        for cut in cuts {
-            let weight = cut.by_ref().weight;
+        for listed in cuts.all() {
+            let weight = listed.weight;
             let is_better = best.arrival >= time || weight.is_before(best, self.aim == Aim::Early);
             if weight.arrival < time && is_better {
                 best = weight;
-                chosen = Some(cut.by_ref());
+                chosen = Some(cuts.cut(listed));
             }
         }
         plan.choose(self.alloc, gate, chosen, best)
     }
 
     /// Chooses the cut of a gate that brings the fewest tables into use, and of several the one that arrives first.
-    fn choose_exactly(&self, plan: &mut Plan, gate: Signal, cuts: &[Cut]) -> Result<(), NoMemory> {
+    fn choose_exactly(&self, plan: &mut Plan, gate: Signal, cuts: &Cuts) -> Result<(), NoMemory> {
         let is_used = plan.counts.is_used(gate.0 as usize);
         if is_used {
             let leaves = leaves_in(&plan.choices, gate);
@@ -489,14 +484,14 @@ impl Round<'_> {
     }
 
     /// The same for a gate whose present cut isn't counted.
-    fn choose_least(&self, plan: &mut Plan, gate: Signal, cuts: &[Cut]) -> Result<(), NoMemory> {
+    fn choose_least(&self, plan: &mut Plan, gate: Signal, cuts: &Cuts) -> Result<(), NoMemory> {
         let time = plan.fact(gate).required;
         let mut best = plan.present(gate);
         let leaves = leaves_in(&plan.choices, gate);
         let mut least = plan.counts.area_of(&plan.choices, leaves, usize::MAX)?;
         let mut chosen = None;
-        for cut in cuts {
-            let cut = cut.by_ref();
+        for listed in cuts.all() {
+            let cut = cuts.cut(listed);
             if cut.weight.arrival >= time {
                 continue;
             }
